@@ -1,0 +1,4 @@
+-- Laws about the definitions in specs/, for every crate above.
+pub mod Congruent
+pub mod Euclid
+pub mod Bezout

@@ -1,0 +1,1 @@
+// Residues and Euclid's chain, for every modulus from 1 to 2^32 - 1.
