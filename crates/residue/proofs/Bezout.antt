@@ -31,11 +31,12 @@ bezout-last : (m a g : ℕ) → 0 < m → g ≡ a → Bezout m a 0 g (1 % m) 0
 bezout-last m a g pos h = record {
   q = 1;
   p = 0;
-  left = h' ;
+  left = h';
   right = omega arith;
   one = congruent-trans (congruent-of-eq {b = 1 % m} (omega arith)) (congruent-mod m 1);
   s-small = mod-lt 1 pos;
-  t-small = pos }
+  t-small = pos;
+}
   where
     h' : a ≡ g * 1
     h' = omega (arith, h)
@@ -49,18 +50,20 @@ bezout-next m a b g s t pos h = record {
   right = h .left;
   one =
       congruent-trans (congruent-add congruent-refl (congruent-mul (congruent-mod m (s + a / suc b * (m - t))) congruent-refl))
-        (congruent-trans
-          (congruent-of 0 (a / suc b * h .q)
-            (one-kept m s t (m - t) (h .q) (h .p) (a / suc b) (sub-add-cancel (omega (arith, h .t-small)))))
-          (h .one));
+      (congruent-trans
+      (congruent-of 0 (a / suc b * h .q)
+      (one-kept m s t (m - t) (h .q) (h .p) (a / suc b) (sub-add-cancel (omega (arith, h .t-small)))))
+      (h .one));
   s-small = h .t-small;
-  t-small = mod-lt _ pos }
+  t-small = mod-lt _ pos;
+}
 
 pub cofactors-bezout : (m a b : ℕ) → 0 < m → Bezout m a b (gcd a b) (cofactors m a b .s) (cofactors m a b .t)
 cofactors-bezout m a b pos = euclid-induction (λ a b. Bezout m a b (gcd a b) (cofactors m a b .s) (cofactors m a b .t)) last next a b
   where
     last : (a : ℕ) → Bezout m a 0 (gcd a 0) (cofactors m a 0 .s) (cofactors m a 0 .t)
     last a = rw (cofactors-zero m a) (bezout-last m a (gcd a 0) pos (gcd-zero a))
+
     next : (a b : ℕ) → Bezout m (suc b) (a % suc b) (gcd (suc b) (a % suc b)) (cofactors m (suc b) (a % suc b) .s) (cofactors m (suc b) (a % suc b) .t)
         → Bezout m a (suc b) (gcd a (suc b)) (cofactors m a (suc b) .s) (cofactors m a (suc b) .t)
     next a b h = rw (gcd-step a (suc b) (zero-lt-suc b), cofactors-step m a (suc b) (zero-lt-suc b)) (bezout-next m a b _ _ _ pos h)

@@ -18,7 +18,8 @@ use Rattle.residue.specs.Congruent.{Congruent}
 
 pub congruent-of : {m a b : ℕ} (k l : ℕ) → a + k * m ≡ b + l * m → Congruent m a b
 congruent-of {m} {a} {b} k l h = record {
-  same = sym (add-mul-mod-self-right a k m) ∙ ap (λ (z : ℕ). z % m) h ∙ add-mul-mod-self-right b l m }
+  same = sym (add-mul-mod-self-right a k m) ∙ ap (λ (z : ℕ). z % m) h ∙ add-mul-mod-self-right b l m;
+}
 
 pub record Witness (m a b : ℕ) : Type 0 where
   pub k : ℕ
@@ -27,7 +28,10 @@ pub record Witness (m a b : ℕ) : Type 0 where
 
 pub congruent-witness : {m a b : ℕ} → Congruent m a b → Witness m a b
 congruent-witness {m} {a} {b} h = record {
-  k = b / m; l = a / m; eq = omega (arith, h .same, div-add-mod' a m, div-add-mod' b m) }
+  k = b / m;
+  l = a / m;
+  eq = omega (arith, h .same, div-add-mod' a m, div-add-mod' b m);
+}
 
 pub congruent-of-eq : {m a b : ℕ} → a ≡ b → Congruent m a b
 congruent-of-eq {m} h = record { same = ap (λ (z : ℕ). z % m) h }
@@ -50,7 +54,7 @@ pub congruent-mul : {m a b c d : ℕ} → Congruent m a b → Congruent m c d �
 congruent-mul {b = b} {c = c} h g =
     let w = congruent-witness h in let u = congruent-witness g in
     congruent-of (w .k * c + b * u .k) (w .l * c + b * u .l)
-      (omega (arith, ap (λ (z : ℕ). z * c) (w .eq), ap (λ (z : ℕ). b * z) (u .eq)))
+    (omega (arith, ap (λ (z : ℕ). z * c) (w .eq), ap (λ (z : ℕ). b * z) (u .eq)))
 
 pub congruent-mod : (m a : ℕ) → Congruent m (a % m) a
 congruent-mod m a = record { same = mod-mod a m }
@@ -80,9 +84,9 @@ pub congruent-down : {m a b : ℕ} (d e : ℕ) → m ≡ d * e → Congruent m a
 congruent-down d e h c =
     let w = congruent-witness c in
     congruent-of (w .k * e) (w .l * e)
-      (omega (arith, w .eq, ap (λ (z : ℕ). w .k * z) h, ap (λ (z : ℕ). w .l * z) h))
+    (omega (arith, w .eq, ap (λ (z : ℕ). w .k * z) h, ap (λ (z : ℕ). w .l * z) h))
 
 pub congruent-combine : {m A C : ℕ} (s t : ℕ) → Congruent m A 0 → Congruent m C 0 → Congruent m (s * A + t * C) 0
 congruent-combine s t h g =
     congruent-trans (congruent-add (congruent-mul (congruent-refl {a = s}) h) (congruent-mul (congruent-refl {a = t}) g))
-      (congruent-of-eq (omega arith))
+    (congruent-of-eq (omega arith))

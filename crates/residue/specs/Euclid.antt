@@ -29,7 +29,7 @@ module _ {A : Type 0} (last : ℕ → A) (next : ℕ → ℕ → A → A) where
   enough (suc f) (suc f′) a zero h g = refl
   enough (suc f) (suc f′) a (suc b) h g =
       ap (next a (suc b))
-        (enough f f′ (suc b) (a % suc b) (omega (arith, remainder-le a b)) (omega (arith, remainder-le a b)))
+      (enough f f′ (suc b) (a % suc b) (omega (arith, remainder-le a b)) (omega (arith, remainder-le a b)))
 
   pub euclid-zero : (a : ℕ) → euclid a 0 ≡ last a
   unfolding euclid

@@ -1,0 +1,2 @@
+-- Laws about the definitions in specs/, for every crate above.
+pub mod First
