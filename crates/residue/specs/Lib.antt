@@ -1,5 +1,7 @@
--- Read in this order: Congruent, Euclid, Gcd, Bezout.
+-- Read in this order: Congruent, Divides, Negative, Euclid, Gcd, Bezout.
 pub mod Congruent
+pub mod Divides
+pub mod Negative
 pub mod Euclid
 pub mod Gcd
 pub mod Bezout
