@@ -1,2 +1,5 @@
 -- Laws about the definitions in specs/, for every crate above.
+pub mod Truth
+pub mod Dot
+pub mod Vectors
 pub mod First
