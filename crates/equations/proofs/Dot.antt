@@ -2,7 +2,9 @@
 --   dot-nil, dot-zeros   against nothing, and against zeros
 --   length-combine       a combination is as long as its lines
 --   dot-combine          the sum of a combination is the combination of the sums, mod m
-use mathlib.Core.Path.{_≡_, refl, ap}
+--   dot-comm             the two lists may change places
+--   dot-combine-right    hence the same for a combination on the right
+use mathlib.Core.Path.{_≡_, refl, ap, ap₂}
 use mathlib.Core.List.{List, [], _∷_}
 use Prim.Native.Nat.{ℕ, zero, suc, _+_, _*_, _%_}
 use native.Mathlib.Nat.{suc-inj}
@@ -37,3 +39,16 @@ dot-combine m s t (a ∷ v) (b ∷ w) (y ∷ x) h =
     congruent-trans
     (congruent-add (congruent-mul (congruent-mod m (s * a + t * b)) (congruent-refl {a = y})) (dot-combine m s t v w x (suc-inj h)))
     (congruent-of-eq (omega arith))
+
+pub dot-comm : (v w : List ℕ) → dot v w ≡ dot w v
+dot-comm [] [] = refl
+dot-comm [] (y ∷ w) = refl
+dot-comm (x ∷ v) [] = refl
+dot-comm (x ∷ v) (y ∷ w) = omega (arith, dot-comm v w)
+
+pub dot-combine-right : (m s t : ℕ) (a v w : List ℕ) → length v ≡ length w
+    → Congruent m (dot a (combine m s t v w)) (s * dot a v + t * dot a w)
+dot-combine-right m s t a v w h =
+    congruent-trans (congruent-of-eq (dot-comm a (combine m s t v w)))
+    (congruent-trans (dot-combine m s t v w a h)
+    (congruent-of-eq (ap₂ (λ (x y : ℕ). s * x + t * y) (dot-comm v a) (dot-comm w a))))

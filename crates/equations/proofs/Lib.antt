@@ -3,3 +3,7 @@ pub mod Truth
 pub mod Dot
 pub mod Vectors
 pub mod First
+pub mod Search
+pub mod Lists
+pub mod Solving
+pub mod Claim

@@ -2,9 +2,13 @@
 --   both-of-and, and-of-both   a test that is made of two
 --   true-of, false-of          from a fact to the test's value
 --   of-true, of-false          and back
+--   true-or-false              one of the two
+--   eqb-of, not-eqb-of         tests of equality
 use mathlib.Core.Path.{_≡_, refl, sym, subst}
+use mathlib.Core.Logic.{_⊎_, inl, inr}
 use mathlib.Core.Bool.{Bool, true, false, _&&_}
-use lib.Dec.{T}
+use Prim.Native.Nat.{ℕ}
+use lib.Dec.{T, eqb, eqb→eq, eqb-refl}
 
 pub both-of-and : (a b : Bool) → T (a && b) → T a × T b
 both-of-and true b t = (tt, t)
@@ -27,3 +31,13 @@ of-true h = subst T (sym h) tt
 
 pub of-false : {b : Bool} → b ≡ false → T b → ⊥
 of-false h t = subst T h t
+
+pub true-or-false : (b : Bool) → (b ≡ true) ⊎ (b ≡ false)
+true-or-false true = inl refl
+true-or-false false = inr refl
+
+pub eqb-of : (x y : ℕ) → x ≡ y → T (eqb x y)
+eqb-of x y h = subst (λ (z : ℕ). T (eqb x z)) h (eqb-refl x)
+
+pub not-eqb-of : (x y : ℕ) → (x ≡ y → ⊥) → eqb x y ≡ false
+not-eqb-of x y h = false-of (eqb x y) (λ t. h (eqb→eq x y t))

@@ -6,7 +6,7 @@ use Prim.Native.Nat.{ℕ, zero, suc, _+_, _-_, _*_, _/_, _%_, _≤_, _<_, zero-l
 use native.Mathlib.Nat.{div-add-mod', mod-lt, zero-lt-suc, le-refl, sub-add-cancel}
 use native.Mathlib.Omega.{arith}
 use Rattle.residue.specs.Congruent.{Congruent}
-use Rattle.residue.proofs.Euclid.{euclid-induction}
+use Rattle.residue.proofs.Induction.{euclid-induction}
 use Rattle.residue.specs.Gcd.{gcd, gcd-zero, gcd-step}
 use Rattle.residue.specs.Bezout.{Cofactors, cofactors, cofactorsLast, cofactorsNext, cofactors-zero, cofactors-step}
 use Rattle.residue.proofs.Congruent.{congruent-of, congruent-of-eq, congruent-refl, congruent-trans, congruent-add, congruent-mul, congruent-mod}

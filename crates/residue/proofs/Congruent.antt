@@ -6,6 +6,7 @@
 --   congruent-cancel                       the same summand off both sides
 --   congruent-multiple                     k·m ≡ 0
 --   congruent-small                        residues that are congruent are equal
+--   remainder-is                           r + q·m = x with r < m: r is the remainder of x
 --   congruent-zero                         a number that is ≡ 0 is a multiple
 --   congruent-scale, congruent-unscale     e·a ≡ e·b (mod e·m) from and to a ≡ b (mod m)
 --   congruent-down                         from m to a divisor of m
@@ -67,6 +68,9 @@ congruent-multiple k = congruent-of 0 k (omega arith)
 
 pub congruent-small : {m a b : ℕ} → a < m → b < m → Congruent m a b → a ≡ b
 congruent-small p q h = sym (mod-eq-of-lt p) ∙ h .same ∙ mod-eq-of-lt q
+
+pub remainder-is : {m x r : ℕ} (q : ℕ) → r < m → r + q * m ≡ x → r ≡ x % m
+remainder-is {m} {x} {r} q small h = sym (mod-eq-of-lt small) ∙ sym (add-mul-mod-self-right r q m) ∙ ap (λ (z : ℕ). z % m) h
 
 pub congruent-zero : {m a : ℕ} → Congruent m a 0 → a ≡ a / m * m
 congruent-zero {m} {a} h = omega (arith, h .same, zero-mod m, div-add-mod' a m)

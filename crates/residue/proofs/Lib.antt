@@ -1,6 +1,11 @@
 -- Laws about the definitions in specs/, for every crate above.
+-- The kit over any modulus: Congruent, Divides, Negative. Euclid's chain: Induction, Bezout, Columns, Gcd, Lame. Products: Shoup.
 pub mod Congruent
 pub mod Divides
 pub mod Negative
-pub mod Euclid
+pub mod Induction
 pub mod Bezout
+pub mod Columns
+pub mod Gcd
+pub mod Lame
+pub mod Shoup

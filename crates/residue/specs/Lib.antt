@@ -1,7 +1,10 @@
--- Read in this order: Congruent, Divides, Negative, Euclid, Gcd, Bezout.
+-- Read in this order: Congruent, Divides, Negative, Euclid, Gcd, Digits, Chain, Bezout, Cofactors.
 pub mod Congruent
 pub mod Divides
 pub mod Negative
 pub mod Euclid
 pub mod Gcd
+pub mod Digits
+pub mod Chain
 pub mod Bezout
+pub mod Cofactors

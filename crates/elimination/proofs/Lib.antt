@@ -1,0 +1,9 @@
+-- The method of specs/ gives the answer of the definitions in `equations`. Read in this order.
+pub mod Unimodular
+pub mod Step
+pub mod Zeros
+pub mod Closure
+pub mod Basis
+pub mod Residues
+pub mod Substitution
+pub mod Turned

@@ -1,0 +1,50 @@
+-- What a claim describes and when it passes, said by exists and for-all.
+--   describes-nothing   "0 claims no solution and describes no vector"
+--   describes-exists    a vector is described: it is the start plus a combination of the steps, for some coefficients
+--   passes-all          a claim passes: of each vector of n residues, it is described if and only if it solves
+use mathlib.Core.Path.{_≡_}
+use mathlib.Core.Logic.{_↔_}
+use mathlib.Core.List.{List, [], _∷_}
+use mathlib.Core.Bool.{Bool, true, false, Bool·beq}
+use Prim.Native.Nat.{ℕ}
+use lib.ListN.{length}
+use lib.Dec.{T}
+use Rattle.equations.specs.Lists.{every, someone}
+use Rattle.equations.specs.Vectors.{Vector, vectors, sameVector, combination}
+use Rattle.equations.specs.Equation.{Equation, solves}
+use Rattle.equations.specs.Claim.{Claim, noSolution, from, describes, passes}
+use Rattle.equations.proofs.Lists.{every-vector, every-of, someone-vector, someone-of, eq-of-same, same-of-eq}
+
+pub describes-nothing : (m : ℕ) (v : List ℕ) → T (describes m noSolution v) → ⊥
+unfolding describes
+describes-nothing m v t = t
+
+module _ (m : ℕ) (c : List ℕ) (ss : List (List ℕ)) (v : List ℕ) where
+  abbrev pub Described : Type 0
+  Described = (ts : List ℕ) × Vector m (length ss) ts × (combination m c ss ts ≡ v)
+
+  pub describes-exists : T (describes m (from c ss) v) ↔ Described
+  unfolding describes
+  describes-exists = (
+    (λ t. let found = someone-vector m (length ss) (λ ts. sameVector (combination m c ss ts) v) t in
+        (found .0, found .1, eq-of-same (combination m c ss (found .0)) v (found .2))),
+    λ d. someone-of m (length ss) (λ ts. sameVector (combination m c ss ts) v) (d .0) (d .1)
+        (same-of-eq (combination m c ss (d .0)) v (d .2)),
+  )
+
+-- two tests with the same outcome
+same-outcome : (a b : Bool) → T (Bool·beq a b) ↔ (T a ↔ T b)
+same-outcome true true = ((λ t. ((λ u. u), λ u. u)), λ h. tt)
+same-outcome true false = ((λ t. absurd t), λ h. h .0 tt)
+same-outcome false true = ((λ t. absurd t), λ h. h .1 tt)
+same-outcome false false = ((λ t. ((λ u. u), λ u. u)), λ h. tt)
+
+pub passes-all : (m n : ℕ) (es : List Equation) (claim : Claim)
+    → T (passes m n es claim) ↔ ((v : List ℕ) → Vector m n v → T (describes m claim v) ↔ T (solves m es v))
+unfolding passes
+passes-all m n es claim = (
+  (λ t v vec. same-outcome (describes m claim v) (solves m es v) .0
+      (every-vector m n (λ v. Bool·beq (describes m claim v) (solves m es v)) t v vec)),
+  λ f. every-of m n (λ v. Bool·beq (describes m claim v) (solves m es v))
+      (λ v vec. same-outcome (describes m claim v) (solves m es v) .1 (f v vec)),
+)

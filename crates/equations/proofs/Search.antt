@@ -1,0 +1,96 @@
+-- One of the vectors is the first that passes a test, or none passes; hence what `first` tells.
+--   First                      v is a vector that passes, and none before it does
+--   Search, search-vectors     there is such a vector, or none passes
+--   first-some                 what `first` finds is such a vector
+--   first-holds, first-least   its parts
+--   none-means-none            where it finds nothing, no vector passes
+use mathlib.Core.Path.{_≡_, sym, _∙_, subst}
+use mathlib.Core.Logic.{_⊎_, inl, inr}
+use mathlib.Core.List.{List, [], _∷_}
+use mathlib.Core.Option.{none, some, Option·none-ne-some, Option·some-ne-none, Option·some-injective}
+use mathlib.Core.Bool.{Bool, true, false}
+use Prim.Native.Nat.{ℕ, zero, suc, _+_, _<_}
+use native.Mathlib.Nat.{eq-or-lt-of-le}
+use native.Mathlib.Omega.{arith}
+use lib.Dec.{T}
+use Rattle.equations.specs.Lists.{first}
+use Rattle.equations.specs.Vectors.{Vector, Before, vectors}
+use Rattle.equations.proofs.Truth.{of-true, of-false, true-or-false}
+use Rattle.equations.proofs.First.{first-none, first-is}
+
+pub record First (m n : ℕ) (p : List ℕ → Bool) (v : List ℕ) : Type 0 where
+  pub vector : Vector m n v
+  pub holds : p v ≡ true
+  pub least : (w : List ℕ) → Vector m n w → Before w v → p w ≡ false
+
+abbrev pub Search : ℕ → ℕ → (List ℕ → Bool) → Type 0
+Search m n p = ((v : List ℕ) × First m n p v) ⊎ ((w : List ℕ) → Vector m n w → p w ≡ false)
+
+by-head : (m n : ℕ) (p : List ℕ → Bool) → ((y : ℕ) (w : List ℕ) → y < m → Vector m n w → p (y ∷ w) ≡ false)
+    → (w : List ℕ) → Vector m (suc n) w → p w ≡ false
+by-head m n p f [] vec = absurd vec
+by-head m n p f (y ∷ w) vec = f y w (vec .0) (vec .1)
+
+-- no vector with a head below x passes; k heads are left to try
+scan : (m n : ℕ) (p : List ℕ → Bool) → ((x : ℕ) → Search m n (λ v. p (x ∷ v))) → (x k : ℕ) → x + k ≡ m
+    → ((y : ℕ) (w : List ℕ) → y < x → Vector m n w → p (y ∷ w) ≡ false) → Search m (suc n) p
+scan m n p at x zero e below = inr (by-head m n p (λ y w lt. below y w (omega arith)))
+scan m n p at x (suc k) e below = go (at x) (scan m n p at (suc x) k (omega arith))
+  where
+    least : (v : List ℕ) → First m n (λ v. p (x ∷ v)) v → (w : List ℕ) → Vector m (suc n) w → Before w (x ∷ v) → p w ≡ false
+    least v f [] vec b = absurd vec
+    least v f (y ∷ w) vec (inl lt) = below y w lt (vec .1)
+    least v f (y ∷ w) vec (inr b) = rw (b .0) (f .least w (vec .1) (b .1))
+
+    more : ((w : List ℕ) → Vector m n w → p (x ∷ w) ≡ false) → (y : ℕ) (w : List ℕ) → (y ≡ x) ⊎ (y < x) → Vector m n w
+        → p (y ∷ w) ≡ false
+    more fails y w (inl eq) vec = rw eq (fails w vec)
+    more fails y w (inr lt) vec = below y w lt vec
+
+    go : Search m n (λ v. p (x ∷ v))
+        → (((y : ℕ) (w : List ℕ) → y < suc x → Vector m n w → p (y ∷ w) ≡ false) → Search m (suc n) p) → Search m (suc n) p
+    go (inl (v, f)) next = inl (x ∷ v, record { vector = (omega arith, f .vector); holds = f .holds; least = least v f })
+    go (inr fails) next = next (λ y w lt. more fails y w (eq-or-lt-of-le (omega arith)))
+
+pub search-vectors : (m n : ℕ) (p : List ℕ → Bool) → Search m n p
+search-vectors m zero p = go (true-or-false (p []))
+  where
+    fails : p [] ≡ false → (w : List ℕ) → Vector m zero w → p w ≡ false
+    fails h [] vec = h
+    fails h (x ∷ w) vec = absurd vec
+
+    nothing-before : (w : List ℕ) → Before w [] → ⊥
+    nothing-before [] b = b
+    nothing-before (x ∷ w) b = b
+
+    go : (p [] ≡ true) ⊎ (p [] ≡ false) → Search m zero p
+    go (inl h) = inl ([], record { vector = tt; holds = h; least = λ w vec b. absurd (nothing-before w b) })
+    go (inr h) = inr (fails h)
+search-vectors m (suc n) p =
+    scan m n p (λ x. search-vectors m n (λ v. p (x ∷ v))) 0 m (omega arith) (λ y w lt vec. absurd (omega arith))
+
+-- ---- the first vector that passes
+
+pub first-some : (m n : ℕ) (p : List ℕ → Bool) (v : List ℕ) → first p (vectors m n) ≡ some v → First m n p v
+first-some m n p v h = go (search-vectors m n p)
+  where
+    go : Search m n p → First m n p v
+    go (inl (w, f)) =
+        subst (First m n p)
+        (Option·some-injective w v (sym (first-is m n p w (f .vector) (f .holds) (f .least)) ∙ h)) f
+    go (inr fails) = absurd (Option·none-ne-some v (sym (first-none m n p fails) ∙ h))
+
+pub first-holds : (m n : ℕ) (p : List ℕ → Bool) (v : List ℕ) → first p (vectors m n) ≡ some v → Vector m n v × T (p v)
+first-holds m n p v h = let f = first-some m n p v h in (f .vector, of-true (f .holds))
+
+pub first-least : (m n : ℕ) (p : List ℕ → Bool) (v : List ℕ) → first p (vectors m n) ≡ some v
+    → (w : List ℕ) → Vector m n w → Before w v → T (p w) → ⊥
+first-least m n p v h w vec b = of-false (first-some m n p v h .least w vec b)
+
+pub none-means-none : (m n : ℕ) (p : List ℕ → Bool) → first p (vectors m n) ≡ none
+    → (w : List ℕ) → Vector m n w → T (p w) → ⊥
+none-means-none m n p h w vec = go (search-vectors m n p)
+  where
+    go : Search m n p → T (p w) → ⊥
+    go (inl (v, f)) t = Option·some-ne-none v (sym (first-is m n p v (f .vector) (f .holds) (f .least)) ∙ h)
+    go (inr fails) t = of-false (fails w vec) t

@@ -1,0 +1,101 @@
+// Residue arithmetic: numbers of 32 bits, sums and products of 64 bits, and one equation with `%` for each function. The
+// result is always below m; what a function asks of its arguments is only what it computes with.
+ghost use mathlib.Core.Path.{_≡_};
+ghost use Prim.Native.Nat.{_+_, _*_, _/_, _%_, _≤_, _<_};
+ghost use Rattle.residue.specs.Negative.{negative};
+
+// Both numbers are residues, so that no division is made.
+pub fn add(a: u32, b: u32, m: u32) -> u32
+    requires { ⌜ (a < m) × (b < m) ⌝ }
+    ensures { λ r. ⌜ (r ≡ (a + b) % m) × (r < m) ⌝ }
+{
+    reduce_once(wide(a) + wide(b), m)
+}
+
+pub fn negate(a: u32, m: u32) -> u32
+    requires { ⌜ 0 < m ⌝ }
+    ensures { λ r. ⌜ (r ≡ negative m a % m) × (r < m) ⌝ }
+{
+    let rest = a % m;
+    if rest == 0 { 0 } else { m - rest }
+}
+
+pub fn mul(a: u32, b: u32, m: u32) -> u32
+    requires { ⌜ 0 < m ⌝ }
+    ensures { λ r. ⌜ (r ≡ (a * b) % m) × (r < m) ⌝ }
+{
+    reduce(product(a, b), m)
+}
+
+pub fn mul_add(acc: u32, a: u32, b: u32, m: u32) -> u32
+    requires { ⌜ 0 < m ⌝ }
+    ensures { λ r. ⌜ (r ≡ (acc + a * b) % m) × (r < m) ⌝ }
+{
+    reduce(wide(acc) + product(a, b), m)
+}
+
+// Two products need 65 bits, so the first one is reduced before the second is added.
+pub fn combine(s: u32, a: u32, t: u32, b: u32, m: u32) -> u32
+    requires { ⌜ 0 < m ⌝ }
+    ensures { λ r. ⌜ (r ≡ (s * a + t * b) % m) × (r < m) ⌝ }
+{
+    mul_add(mul(s, a, m), t, b, m)
+}
+
+// What `mul_by` wants to know of a factor a that is used many times with one modulus: a·2^32 / m.
+pub fn reciprocal(a: u32, m: u32) -> u32
+    requires { ⌜ a < m ⌝ }
+    ensures { λ r. ⌜ r ≡ a * 4294967296 / m ⌝ }
+{
+    (wide(a) * 4294967296 / wide(m)) as u32
+}
+
+// Shoup's product, for a factor a with its reciprocal u: the quotient of a·b by m is read off u, without a division, and is
+// at most one too small.
+pub fn mul_by(a: u32, u: u32, b: u32, m: u32) -> u32
+    requires { ⌜ (a < m) × (u ≡ a * 4294967296 / m) ⌝ }
+    ensures { λ r. ⌜ (r ≡ (a * b) % m) × (r < m) ⌝ }
+{
+    let quotient = (product(u, b) / 4294967296) as u32;
+    reduce_once(product(a, b) - product(quotient, m), m)
+}
+
+// `combine` for two factors with their reciprocals, u that of s and v that of t.
+pub fn combine_by(s: u32, u: u32, a: u32, t: u32, v: u32, b: u32, m: u32) -> u32
+    requires { ⌜ (s < m) × (u ≡ s * 4294967296 / m) × (t < m) × (v ≡ t * 4294967296 / m) ⌝ }
+    ensures { λ r. ⌜ (r ≡ (s * a + t * b) % m) × (r < m) ⌝ }
+{
+    add(mul_by(s, u, a, m), mul_by(t, v, b, m), m)
+}
+
+fn wide(x: u32) -> u64
+    ensures { λ r. ⌜ r ≡ x ⌝ }
+{
+    x as u64
+}
+
+// The bound is (2^32 - 1)²: another 32-bit number can be added.
+fn product(a: u32, b: u32) -> u64
+    ensures { λ r. ⌜ (r ≡ a * b) × (r ≤ 18446744065119617025) ⌝ }
+{
+    wide(a) * wide(b)
+}
+
+fn reduce(x: u64, m: u32) -> u32
+    requires { ⌜ 0 < m ⌝ }
+    ensures { λ r. ⌜ (r ≡ x % m) × (r < m) ⌝ }
+{
+    (x % wide(m)) as u32
+}
+
+fn reduce_once(x: u64, m: u32) -> u32
+    requires { ⌜ x < 2 * m ⌝ }
+    ensures { λ r. ⌜ (r ≡ x % m) × (r < m) ⌝ }
+{
+    let modulus = wide(m);
+    if x < modulus {
+        x as u32
+    } else {
+        (x - modulus) as u32
+    }
+}
