@@ -12,16 +12,15 @@ use lib.Dec.{eqb, eqb→eq}
 use Rattle.residue.specs.Congruent.{Congruent}
 use Rattle.residue.specs.Gcd.{gcd}
 use Rattle.residue.specs.Bezout.{cofactors}
-use Rattle.residue.specs.Negative.{negative}
-use Rattle.residue.proofs.Congruent.{congruent-of-eq, congruent-refl, congruent-sym, congruent-trans, congruent-add, congruent-mul, congruent-mod, congruent-zero}
+use Rattle.residue.proofs.Congruent.{congruent-of-eq, congruent-refl, congruent-sym, congruent-trans, congruent-add, congruent-mul, congruent-zero}
 use Rattle.residue.proofs.Divides.{factor-positive, factor-div}
-use Rattle.residue.proofs.Negative.{negative-is}
 use Rattle.residue.proofs.Bezout.{Bezout, cofactors-bezout}
 use Rattle.equations.specs.Vectors.{combine}
 use Rattle.equations.specs.Equation.{dot}
 use Rattle.equations.proofs.Truth.{of-true}
 use Rattle.equations.proofs.Dot.{dot-combine}
 use Rattle.elimination.specs.Step.{Step, divided, reduced, stepOf}
+use Rattle.elimination.proofs.Modulus.{negative-reduced}
 use Rattle.elimination.proofs.Unimodular.{Unimodular}
 
 pub record Numbers (m d v : ℕ) (x : Step) : Type 0 where
@@ -32,15 +31,12 @@ pub record Numbers (m d v : ℕ) (x : Step) : Type 0 where
 
 -- ---- both ways to find them
 
-reduced-minus : (m q : ℕ) → 0 < m → Congruent m (q + negative m q % m) 0
-reduced-minus m q pos = congruent-trans (congruent-add congruent-refl (congruent-mod m (negative m q))) (negative-is m q pos)
-
 divided-numbers : (m d v : ℕ) → 0 < m → v % d ≡ 0 → Numbers m d v (divided m d v)
 divided-numbers m d v pos h = record {
   q = 1;
   row = sym (mul-one d);
   line = congruent-zero (record { same = h ∙ sym (zero-mod d) }) ∙ mul-comm (v / d) d;
-  unimodular = record { one = congruent-of-eq (omega arith); minus = reduced-minus m 1 pos };
+  unimodular = record { one = congruent-of-eq (omega arith); minus = negative-reduced m 1 pos };
 }
 
 reduced-numbers : (m d v : ℕ) → 0 < m → 0 < d → Numbers m d v (reduced m d v)
@@ -48,7 +44,7 @@ reduced-numbers m d v pos dpos = record {
   q = d / g;
   row = b .left ∙ ap (λ (z : ℕ). g * z) (sym q-is);
   line = b .right ∙ ap (λ (z : ℕ). g * z) (sym p-is);
-  unimodular = record { one = rw (q-is, p-is) (b .one); minus = reduced-minus m (d / g) pos };
+  unimodular = record { one = rw (q-is, p-is) (b .one); minus = negative-reduced m (d / g) pos };
 }
   where
     g : ℕ

@@ -13,12 +13,11 @@ use native.Mathlib.Omega.{arith}
 use lib.ListN.{length, take, drop}
 use Rattle.residue.specs.Congruent.{Congruent}
 use Rattle.residue.specs.Negative.{negative}
-use Rattle.residue.proofs.Congruent.{congruent-of-eq, congruent-refl, congruent-sym, congruent-trans, congruent-add, congruent-mod, congruent-cancel, congruent-zero, congruent-down, congruent-unscale}
-use Rattle.residue.proofs.Divides.{factor-positive}
-use Rattle.residue.proofs.Negative.{negative-is}
+use Rattle.residue.proofs.Congruent.{congruent-of-eq, congruent-refl, congruent-sym, congruent-trans, congruent-add, congruent-cancel, congruent-zero, congruent-down}
 use Rattle.equations.specs.Equation.{dot}
 use Rattle.equations.proofs.Vectors.{Below}
 use Rattle.elimination.specs.Substitution.{place, fit, extend}
+use Rattle.elimination.proofs.Modulus.{negative-reduced, factor-cancel}
 use Rattle.elimination.proofs.Zeros.{Sat}
 use Rattle.elimination.proofs.Closure.{Closed, Closure}
 
@@ -26,26 +25,14 @@ use Rattle.elimination.proofs.Closure.{Closed, Closure}
 
 module _ (m d e R : ℕ) (pos : 0 < m) (factor : m ≡ d * e) where
   minus-zero : Congruent m (negative m R % m + R) 0
-  minus-zero =
-      congruent-trans (congruent-add (congruent-mod m (negative m R)) congruent-refl)
-      (congruent-trans (congruent-of-eq (omega arith)) (negative-is m R pos))
-
-  -- e·R ≡ 0 (mod d·e): the pivot divides R
-  pivot-divides-rest : Congruent m (e * R) 0 → Congruent d R 0
-  pivot-divides-rest h = congruent-unscale e epos (subst-modulus h)
-    where
-      epos : 0 < e
-      epos = factor-positive m e d (factor ∙ mul-comm d e) pos
-
-      subst-modulus : Congruent m (e * R) 0 → Congruent (e * d) (e * R) (e * 0)
-      subst-modulus h = rw (← mul-comm d e, ← factor) (congruent-trans h (congruent-of-eq (omega arith)))
+  minus-zero = congruent-trans (congruent-of-eq (omega arith)) (negative-reduced m R pos)
 
   pub place-zero : Congruent m (e * R) 0 → Congruent m (d * place m d R + R) 0
   unfolding place
   place-zero h =
       let z : Congruent d (negative m R % m) 0 =
       congruent-trans
-      (congruent-trans (congruent-of-eq (omega arith)) (congruent-add (congruent-refl {a = negative m R % m}) (congruent-sym (pivot-divides-rest h))))
+      (congruent-trans (congruent-of-eq (omega arith)) (congruent-add (congruent-refl {a = negative m R % m}) (congruent-sym (factor-cancel e d R pos (factor ∙ mul-comm d e) h))))
       (congruent-down d e factor minus-zero)
       in
       congruent-trans (congruent-add (congruent-of-eq (mul-comm d _ ∙ sym (congruent-zero z))) congruent-refl) minus-zero
@@ -72,10 +59,11 @@ length-extend m zero B S h = omega arith
 length-extend m (suc j) [] S h = absurd (omega arith)
 length-extend m (suc j) (r ∷ B) S h = omega (arith, length-extend m j B S (omega arith))
 
-pub drop-extend : (m j : ℕ) (B : List (List ℕ)) (S : List ℕ) → j ≤ length B → drop j (extend m j B S) ≡ S
-drop-extend m zero B S h = refl
-drop-extend m (suc j) [] S h = absurd (omega arith)
-drop-extend m (suc j) (r ∷ B) S h = drop-extend m j B S (omega arith)
+pub drop-extend : (m j c i : ℕ) (B : List (List ℕ)) (S : List ℕ) → j ≤ length B → i ≡ j + c → drop i (extend m j B S) ≡ drop c S
+drop-extend m zero c i B S h e = let f : i ≡ c = omega arith in rw f
+drop-extend m (suc j) c i [] S h e = absurd (omega arith)
+drop-extend m (suc j) c zero (r ∷ B) S h e = absurd (omega arith)
+drop-extend m (suc j) c (suc i) (r ∷ B) S h e = drop-extend m j c i B S (omega arith) (omega arith)
 
 -- the first j entries are residues, so the first j + c are if c entries of S are
 pub below-extend : (m j c i : ℕ) (B : List (List ℕ)) (S : List ℕ) → 0 < m → j ≤ length B → i ≡ j + c

@@ -2,6 +2,7 @@
 --   dot-reverse                       the sum of products does not mind
 --   drop-reverse, reverse-inj         what stands behind, and the vector, can be read off
 --   length-turned, below-turned, reverse-turned   `turned` makes the vector of a point
+--   extend-point, extend-vector       and so of a point found by back substitution
 --   colex-reverse                     the order of points is the dictionary order of vectors
 --   first-colex                       so the least point gives the first vector
 use mathlib.Core.Path.{_≡_, refl, sym, ap, _∙_, subst}
@@ -12,16 +13,17 @@ use mathlib.Core.Bool.{Bool}
 use Prim.Native.Nat.{ℕ, zero, suc, _+_, _*_, _≤_, _<_}
 use native.Mathlib.Nat.{suc-inj}
 use native.Mathlib.Omega.{arith}
-use lib.ListN.{length, take, drop}
+use lib.ListN.{length, take, drop, length-drop}
 use lib.Dec.{T}
 use Rattle.equations.specs.Lists.{first}
 use Rattle.equations.specs.Vectors.{Vector, Before, vectors}
 use Rattle.equations.specs.Equation.{dot}
 use Rattle.equations.proofs.Truth.{true-of, false-of}
-use Rattle.equations.proofs.Vectors.{Below, vector-length, before-asym, before-irrefl}
+use Rattle.equations.proofs.Vectors.{Below, vector-length, vector-of, before-asym, before-irrefl}
 use Rattle.equations.proofs.First.{first-is}
+use Rattle.elimination.specs.Substitution.{extend}
 use Rattle.elimination.specs.Tableau.{turned}
-use Rattle.elimination.proofs.Substitution.{Colex}
+use Rattle.elimination.proofs.Substitution.{length-extend, drop-extend, below-extend, Colex}
 
 -- ---- reversed lists
 
@@ -59,6 +61,22 @@ pub reverse-turned : (n : ℕ) (Y acc : List ℕ) → n ≤ length Y → reverse
 reverse-turned zero Y acc h = refl
 reverse-turned (suc n) [] acc h = absurd (omega arith)
 reverse-turned (suc n) (y ∷ Y) acc h = reverse-turned n Y (y ∷ acc) (omega arith)
+
+-- the vector of an extended point: i entries found, t given ones, and c behind them
+module _ (m n i t c : ℕ) (B : List (List ℕ)) (S : List ℕ) (pos : 0 < m) (fits : i ≤ length B) (places : n ≡ i + t)
+    (last : drop t S ≡ c ∷ []) where
+  enough : n ≤ length (extend m i B S)
+  enough = omega (arith, length-extend m i B S fits, length-drop t S, ap length last)
+
+  pub extend-point : reverseAux (turned n (extend m i B S) []) (c ∷ []) ≡ extend m i B S
+  extend-point =
+      ap (reverseAux (turned n (extend m i B S) [])) (sym (drop-extend m i t n B S fits places ∙ last))
+      ∙ reverse-turned n (extend m i B S) [] enough
+
+  pub extend-vector : Below m (take t S) → Vector m n (turned n (extend m i B S) [])
+  extend-vector below =
+      vector-of m n _ (length-turned n (extend m i B S) [] enough ∙ omega arith)
+      (below-turned m n (extend m i B S) [] (below-extend m i t n B S pos fits places below) tt)
 
 -- ---- the two orders
 

@@ -7,3 +7,10 @@ pub mod Search
 pub mod Lists
 pub mod Solving
 pub mod Claim
+pub mod Combine
+pub mod Closed
+pub mod Steps
+pub mod Ranges
+pub mod Writing
+pub mod Answer
+pub mod Sums

@@ -6,3 +6,4 @@ pub mod Equation
 pub mod Answer
 pub mod Multipliers
 pub mod Claim
+pub mod Promises

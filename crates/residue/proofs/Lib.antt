@@ -8,4 +8,7 @@ pub mod Bezout
 pub mod Columns
 pub mod Gcd
 pub mod Lame
+pub mod First
+pub mod Solutions
+pub mod Promises
 pub mod Shoup

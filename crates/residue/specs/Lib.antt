@@ -1,4 +1,5 @@
--- Read in this order: Congruent, Divides, Negative, Euclid, Gcd, Digits, Chain, Bezout, Cofactors.
+-- Read in this order: Congruent, Divides, Negative, Euclid, Gcd, Digits, Chain, Bezout, Cofactors, Questions, Congruence,
+-- Promises.
 pub mod Congruent
 pub mod Divides
 pub mod Negative
@@ -8,3 +9,6 @@ pub mod Digits
 pub mod Chain
 pub mod Bezout
 pub mod Cofactors
+pub mod Questions
+pub mod Congruence
+pub mod Promises

@@ -1,0 +1,88 @@
+-- Demand 2 about the definitions, in the customer's words and document 01's. Each promise is a type; proofs/Promises.antt
+-- keeps it. Definitions only.
+use mathlib.Core.Path.{_≡_}
+use mathlib.Core.Logic.{_↔_}
+use mathlib.Core.List.{List, [], _∷_, _++_, map}
+use mathlib.Core.Option.{Option, none, some}
+use Prim.Native.Nat.{ℕ, zero, suc, _<_}
+use lib.ListN.{getD, replicate}
+use lib.Dec.{T}
+use Rattle.residue.specs.Divides.{Divides}
+use Rattle.equations.specs.Lists.{count}
+use Rattle.equations.specs.Vectors.{Vector, vectors, combination}
+use Rattle.equations.specs.Equation.{Equation, solves}
+use Rattle.equations.specs.Answer.{startOf, stepAt, stepsOf, leading, rangeOf, rangeProduct}
+use Rattle.equations.specs.Multipliers.{refutes}
+use Rattle.equations.specs.Claim.{Claim, passes}
+
+-- "its coefficient runs over 0..m/d-1": one coefficient for each step, each within its step's range
+abbrev pub Within : ℕ → List (List ℕ) → List ℕ → Type 0
+Within m [] [] = Unit {0}
+Within m [] (t ∷ ts) = ⊥
+Within m (s ∷ ss) [] = ⊥
+Within m (s ∷ ss) (t ∷ ts) = (t < rangeOf m s) × Within m ss ts
+
+-- v is c plus a combination of the steps ss, each coefficient within its range
+abbrev pub Written : ℕ → List ℕ → List (List ℕ) → List ℕ → Type 0
+Written m c ss v = (ts : List ℕ) × Within m ss ts × (combination m c ss ts ≡ v)
+
+-- "a vector solves them all if and only if it is the starting vector plus a combination of the steps"
+abbrev pub Complete : Type 0
+Complete =
+    (m n : ℕ) (es : List Equation) (c : List ℕ) → 0 < m → startOf m n es ≡ some c
+    → (v : List ℕ) → Vector m n v → T (solves m es v) ↔ Written m c (stepsOf m n es) v
+
+-- "and within the stated coefficient ranges it is so in one way"
+abbrev pub Unique : Type 0
+Unique =
+    (m n : ℕ) (es : List Equation) (c : List ℕ) → 0 < m → startOf m n es ≡ some c
+    → (ts us : List ℕ) → Within m (stepsOf m n es) ts → Within m (stepsOf m n es) us
+    → combination m c (stepsOf m n es) ts ≡ combination m c (stepsOf m n es) us → ts ≡ us
+
+-- "If d is the step's entry at its place, d divides m"
+abbrev pub StepDivides : Type 0
+StepDivides =
+    (m n j : ℕ) (es : List Equation) (s : List ℕ) → 0 < m → stepAt m n es j ≡ some s
+    → (leading s ≡ getD s j 0) × Divides (getD s j 0) m
+
+-- "their number is the product of the m/d"
+abbrev pub Counted : Type 0
+Counted =
+    (m n : ℕ) (es : List Equation) (c : List ℕ) → 0 < m → startOf m n es ≡ some c
+    → count (solves m es) (vectors m n) ≡ rangeProduct m (stepsOf m n es)
+
+-- there is no starting vector exactly when "no vector of residues solves all those equations"
+abbrev pub NoStart : Type 0
+NoStart = (m n : ℕ) (es : List Equation) → (startOf m n es ≡ none) ↔ ((v : List ℕ) → Vector m n v → T (solves m es v) → ⊥)
+
+-- multipliers that refute the equations leave no solution
+abbrev pub Refuted : Type 0
+Refuted = (m n : ℕ) (es : List Equation) (ks : List ℕ) → 0 < m → T (refutes m n es ks) → startOf m n es ≡ none
+
+-- the n unit vectors, by rising place of the 1
+abbrev pub units : ℕ → List (List ℕ)
+units zero = []
+units (suc n) = (1 ∷ replicate n 0) ∷ map (λ (v : List ℕ). 0 ∷ v) (units n)
+
+-- "With no equations the starting vector is all zeros and the steps are the n unit vectors." For every m that 01 allows; with
+-- m = 1 there is no residue but 0, and no step.
+abbrev pub NoEquations : Type 0
+NoEquations = (m n : ℕ) → 1 < m → (startOf m n [] ≡ some (replicate n 0)) × (stepsOf m n [] ≡ units n)
+
+-- k coefficients, all of them 0
+abbrev pub constant : ℕ → ℕ → Equation
+constant k b = record { coefficients = replicate k 0; right = b }
+
+-- "0x=0 changes nothing", wherever it stands in the list
+abbrev pub ZeroEquation : Type 0
+ZeroEquation =
+    (m n k : ℕ) (es fs : List Equation)
+    → ((v : List ℕ) → solves m (es ++ (constant k 0 ∷ fs)) v ≡ solves m (es ++ fs) v)
+    × (startOf m n (es ++ (constant k 0 ∷ fs)) ≡ startOf m n (es ++ fs))
+    × (stepsOf m n (es ++ (constant k 0 ∷ fs)) ≡ stepsOf m n (es ++ fs))
+    × ((claim : Claim) → passes m n (es ++ (constant k 0 ∷ fs)) claim ≡ passes m n (es ++ fs) claim)
+
+-- "0x=1: none", wherever it stands in the list; so with every right side that is not 0
+abbrev pub ContradictoryEquation : Type 0
+ContradictoryEquation =
+    (m n k b : ℕ) (es fs : List Equation) → 0 < b → b < m → startOf m n (es ++ (constant k b ∷ fs)) ≡ none

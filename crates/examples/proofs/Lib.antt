@@ -1,0 +1,2 @@
+-- One table.
+pub mod Starred

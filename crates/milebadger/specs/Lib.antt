@@ -1,0 +1,3 @@
+-- Read in this order: Reply, Calls.
+pub mod Reply
+pub mod Calls

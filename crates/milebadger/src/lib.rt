@@ -1,0 +1,36 @@
+// The C face: every call that a C program can make, thin over the crates that do the work.
+mod replying;
+
+ghost use Rattle.milebadger.specs.Reply.{Replied};
+ghost use Rattle.milebadger.specs.Calls.{gcdReply, congruenceReply};
+use replying::give;
+use replying::refuse;
+use residue::congruence::Solved;
+use residue::congruence::solve;
+use residue::euclid::gcd;
+
+// Euclid's chain: the divisor of a and b and the number of divisions made.
+#[no_mangle]
+pub extern "C" fn milebadger_gcd(a: u32, b: u32, out: &mut [u32]) -> i64
+    ensures { λ r. ⌜ Replied (gcdReply a b) (now (out .entry)) (now (out .exit)) r ⌝ }
+{
+    let chain = gcd(a, b);
+    let numbers = [chain.divisor, chain.divisions];
+    give(1, &numbers, out)
+}
+
+// One congruence a·t = b mod m: its least solution and the spacing of its solutions.
+#[no_mangle]
+pub extern "C" fn milebadger_congruence(a: u32, b: u32, m: u32, out: &mut [u32]) -> i64
+    ensures { λ r. ⌜ Replied (congruenceReply a b m) (now (out .entry)) (now (out .exit)) r ⌝ }
+{
+    let solved = solve(a, b, m);
+    match solved {
+        Solved::Refused(number) => refuse(number),
+        Solved::NoSolution => 0,
+        Solved::Solutions(t, spacing) => {
+            let numbers = [t, spacing];
+            give(1, &numbers, out)
+        }
+    }
+}

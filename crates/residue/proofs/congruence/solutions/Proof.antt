@@ -1,0 +1,75 @@
+-- `solutions` meets its contract: the numbers that it computes are those of the laws `solutions-are` and `solutions-none`.
+use mathlib.Core.Path.{_≡_, sym, ap, _∙_}
+use Prim.Native.Nat.{ℕ, _*_, _/_, _%_, _<_}
+use native.Mathlib.Nat.{le-div-iff-mul-le}
+use native.Mathlib.Omega.{arith}
+use borrow.Author.Needs.{needs}
+use Rattle.residue.specs.Cofactors.{bezoutOf}
+use Rattle.residue.specs.Congruence.{solutionsOf}
+use Rattle.residue.specs.Gcd.{gcd}
+use Rattle.residue.specs.declared.congruence.Solved.the-variants.{NoSolution, Solutions}
+use Rattle.residue.specs.declared.extended.Bezout.{Bezout}
+use Rattle.residue.proofs.Gcd.{gcd-positive, gcd-le}
+use Rattle.residue.proofs.Solutions.{solutions-are, solutions-none}
+use Rattle.residue.proofs.congruence.solutions.Statement.{statement}
+use Rattle.residue.proofs.congruence.solutions.Tie as tie
+
+module _ (a b m : ℕ) (z : Bezout) (pos : 0 < m) (is : z ≡ bezoutOf m a m) where
+  divisor : z .divisor ≡ gcd a m
+  unfolding bezoutOf
+  divisor = ap (λ (w : Bezout). w .divisor) is
+
+  divisor-positive : 0 < z .divisor
+  divisor-positive = rw divisor (gcd-positive a m (omega arith))
+
+  spacing-positive : 0 < m / z .divisor
+  spacing-positive =
+      le-div-iff-mul-le {k = z .divisor} {x = 1} {y = m} divisor-positive .1 (rw divisor (omega (arith, gcd-le a m pos)))
+
+  found-none : (b % z .divisor ≡ 0 → ⊥) → NoSolution ≡ solutionsOf a b m
+  found-none h = sym (solutions-none a b m (rw divisor at h))
+
+  found : (t : ℕ) → b % z .divisor ≡ 0 → t ≡ z .s * (b / z .divisor) % (m / z .divisor)
+      → Solutions t (m / z .divisor) ≡ solutionsOf a b m
+  unfolding bezoutOf
+  found t h e = rw (e, is) (sym (solutions-are a b m pos (rw divisor at h)))
+
+cofactors-requires : tie.Need-cofactors-requires
+cofactors-requires c κs = search needs
+
+rem-if1 : tie.Need-rem-if1
+rem-if1 c =
+    let p = c .before .args in
+    divisor-positive (p .a) (p .b) (p .m) (c .cofactors .result) (omega arith) (c .cofactors .ensures .0)
+
+returns : tie.Need-returns
+returns c =
+    let p = c .before .before .args in
+    found-none (p .a) (p .b) (p .m) (c .before .cofactors .result) (omega arith) (c .before .cofactors .ensures .0)
+    (c .if1 .taken)
+
+div-spacing : tie.Need-div-spacing
+div-spacing c =
+    let p = c .before .before .args in
+    divisor-positive (p .a) (p .b) (p .m) (c .before .cofactors .result) (omega arith) (c .before .cofactors .ensures .0)
+
+div-mul : tie.Need-div-mul
+div-mul c =
+    let p = c .before .before .args in
+    divisor-positive (p .a) (p .b) (p .m) (c .before .cofactors .result) (omega arith) (c .before .cofactors .ensures .0)
+
+mul-requires : tie.Need-mul-requires
+mul-requires c κs =
+    let p = c .before .before .args in
+    spacing-positive (p .a) (p .b) (p .m) (c .before .cofactors .result) (omega arith) (c .before .cofactors .ensures .0)
+
+returns-2 : tie.Need-returns-2
+returns-2 c =
+    let p = c .before .before .before .args in
+    found (p .a) (p .b) (p .m) (c .before .before .cofactors .result) (omega arith) (c .before .before .cofactors .ensures .0)
+    (c .mul .result) (omega arith) (c .mul .ensures .0)
+
+pub solutions-spec : {M : Type 1} → statement M
+solutions-spec =
+    tie.close
+    (tie.spec cofactors-requires rem-if1 returns div-spacing div-mul mul-requires returns-2)

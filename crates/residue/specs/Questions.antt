@@ -1,0 +1,29 @@
+-- The questions of document 01, each with the number that is given when its answer is no. Definitions only.
+use mathlib.Core.Bool.{Bool, cond, _&&_}
+use mathlib.Core.List.{List, [], _∷_}
+use Prim.Native.Nat.{ℕ}
+use lib.Dec.{leb, ltb}
+
+-- a question: its number, and whether the answer is yes
+pub record Question : Type 0 where
+  pub number : ℕ
+  pub yes : Bool
+
+abbrev pub asks : ℕ → Bool → Question
+asks k b = record { number = k; yes = b }
+
+-- the number of the first question whose answer is no, or 0 where there is none
+abbrev pub firstNo : List Question → ℕ
+firstNo [] = 0
+firstNo (q ∷ qs) = cond (q .yes) (firstNo qs) (q .number)
+
+-- "m is 2..65,535"
+abbrev pub largestModulus : ℕ
+largestModulus = 65535
+
+abbrev pub allowedModulus : ℕ → Bool
+allowedModulus m = leb 2 m && leb m largestModulus
+
+-- "One congruence: m allowed? 2. a, b below m? 6."
+abbrev pub congruenceQuestions : ℕ → ℕ → ℕ → List Question
+congruenceQuestions a b m = asks 2 (allowedModulus m) ∷ asks 6 (ltb a m && ltb b m) ∷ []

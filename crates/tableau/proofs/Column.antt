@@ -1,0 +1,128 @@
+-- One column of the insertion, in the three ways that the code goes. Where parts of the row R and the line W are lent, they are
+-- written as the code lends them: without their first entries.
+--   row-head                          the row's first entry is a pivot
+--   column-zero                       the line's entry is 0
+--   column-divided                    the pivot divides it
+--   column-reduced                    neither; with `reduction`, its numbers, and `divisor-positive`
+use mathlib.Core.Path.{_≡_, refl, sym, ap, ap₂, _∙_, subst, subst₂}
+use mathlib.Core.List.{List, [], _∷_}
+use Prim.Native.Nat.{ℕ, zero, suc, _+_, _*_, _/_, _%_, _≤_, _<_}
+use native.Mathlib.Nat.{suc-inj, mod-eq-of-lt}
+use native.Mathlib.Omega.{arith}
+use lib.ListN.{length, getD, set}
+use borrow.Author.Tests.{eq-eqb, ne-eqb}
+use Rattle.residue.specs.Gcd.{gcd}
+use Rattle.residue.specs.Bezout.{cofactors}
+use Rattle.residue.specs.Negative.{negative}
+use Rattle.residue.specs.Cofactors.{bezoutOf}
+use Rattle.residue.specs.declared.extended.Bezout.{Bezout}
+use Rattle.residue.proofs.Divides.{divides-le}
+use Rattle.residue.proofs.Gcd.{gcd-positive, gcd-divides-left}
+use Rattle.equations.specs.Vectors.{combine}
+use Rattle.equations.proofs.Vectors.{Below, below-combine}
+use Rattle.elimination.specs.Step.{stepOf}
+use Rattle.elimination.specs.Basis.{insert}
+use Rattle.tableau.specs.Packed.{RowKept}
+use Rattle.tableau.specs.Column.{Inserted}
+use Rattle.tableau.proofs.Parts.{lent, putBack, lent-is, put-back-is}
+
+pub row-head : (m : ℕ) (R : List ℕ) → 0 < length R → RowKept m R → (0 < getD R 0 0) × (getD R 0 0 ≤ m)
+row-head m [] h k = absurd (omega arith)
+row-head m (d ∷ R) h k = (k .0, k .1)
+
+-- 1·r + 0·w is r
+combine-left : (m : ℕ) (r w : List ℕ) → length r ≡ length w → Below m r → combine m 1 0 r w ≡ r
+combine-left m [] w h b = refl
+combine-left m (x ∷ r) [] h b = absurd (omega arith)
+combine-left m (x ∷ r) (y ∷ w) h b =
+    let e : 1 * x + 0 * y ≡ x = omega arith in
+    ap₂ {C = List ℕ} (λ z s. z ∷ s) (ap (λ (z : ℕ). z % m) e ∙ mod-eq-of-lt (b .0)) (combine-left m r w (suc-inj h) (b .1))
+
+pub column-zero : (m : ℕ) (R W : List ℕ) → 0 < length R → length R ≡ length W → RowKept m R → Below m W → getD W 0 0 ≡ 0
+    → Inserted m R W R W
+column-zero m [] W h g k b z = absurd (omega arith)
+column-zero m (d ∷ R) [] h g k b z = absurd (omega arith)
+column-zero m (d ∷ R) (suc v ∷ W) h g k b z = absurd (omega arith)
+column-zero m (d ∷ R) (zero ∷ W) h g k b z = record { same = λ B. refl; kept = k; below = b }
+
+divided-insert : (m d v : ℕ) (R W : List ℕ) (B : List (List ℕ)) → length R ≡ length W → Below m R → suc v % d ≡ 0
+    → insert m ((d ∷ R) ∷ B) (suc v ∷ W) ≡ (d ∷ R) ∷ insert m B (combine m (suc v / d) (negative m 1 % m) R W)
+unfolding stepOf
+divided-insert m d v R W B h b e =
+    rw (eq-eqb (suc v % d) 0 e)
+    (ap (λ (r : List ℕ). (d ∷ r) ∷ insert m B (combine m (suc v / d) (negative m 1 % m) R W)) (combine-left m R W h b))
+
+pub column-divided : (m : ℕ) (R W l : List ℕ) → 0 < length R → length R ≡ length W → RowKept m R → Below m W → 0 < getD W 0 0
+    → getD W 0 0 % getD R 0 0 ≡ 0
+    → l ≡ combine m (getD W 0 0 / getD R 0 0) (negative m 1 % m) (lent 1 R) (lent 1 W)
+    → Inserted m R W R (putBack 1 W l)
+column-divided m [] W l h g k b p z e = absurd (omega arith)
+column-divided m (d ∷ R) [] l h g k b p z e = absurd (omega arith)
+column-divided m (d ∷ R) (zero ∷ W) l h g k b p z e = absurd (omega arith)
+column-divided m (d ∷ R) (suc v ∷ W) l h g k b p z e =
+    subst (Inserted m (d ∷ R) (suc v ∷ W) (d ∷ R)) (sym (put-back-is 1 (suc v ∷ W) l)) (record {
+      same = λ B. divided-insert m d v R W B (suc-inj g) (k .2) z ∙ ap (λ (w : List ℕ). (d ∷ R) ∷ insert m B w) (sym f);
+      kept = k;
+      below = (b .0, subst (Below m) (sym f) (below-combine m _ _ R W (omega (arith, k .0, k .1))));
+    })
+  where
+    f : l ≡ combine m (suc v / d) (negative m 1 % m) R W
+    f = e ∙ ap₂ (combine m (suc v / d) (negative m 1 % m)) (lent-is 1 (d ∷ R)) (lent-is 1 (suc v ∷ W))
+
+reduced-insert : (m d v : ℕ) (R W : List ℕ) (B : List (List ℕ)) → (suc v % d ≡ 0 → ⊥)
+    → insert m ((d ∷ R) ∷ B) (suc v ∷ W)
+    ≡ (gcd d (suc v) ∷ combine m (cofactors m d (suc v) .s) (cofactors m d (suc v) .t) R W)
+    ∷ insert m B (combine m (suc v / gcd d (suc v)) (negative m (d / gcd d (suc v)) % m) R W)
+unfolding stepOf
+reduced-insert m d v R W B e = rw (ne-eqb (suc v % d) 0 e)
+
+-- the numbers of the step, as the code has them from its callees
+abbrev pub Reduction : ℕ → ℕ → ℕ → ℕ → ℕ → ℕ → ℕ → ℕ → Type 0
+Reduction m d v g s t p n =
+    (g ≡ gcd d v) × (s ≡ cofactors m d v .s) × (t ≡ cofactors m d v .t) × (p ≡ v / g) × (n ≡ negative m (d / g) % m)
+
+pub divisor-positive : (m d v : ℕ) (c : Bezout) → 0 < v → c ≡ bezoutOf m d v → 0 < c .divisor
+unfolding bezoutOf
+divisor-positive m d v c h e = rw e (gcd-positive d v (omega arith))
+
+pub reduction : (m d v : ℕ) (c : Bezout) (n : ℕ) → c ≡ bezoutOf m d v → n ≡ negative m (d / c .divisor) % m
+    → Reduction m d v (c .divisor) (c .s) (c .t) (v / c .divisor) n
+unfolding bezoutOf
+reduction m d v c n e f = (ap (λ (c : Bezout). c .divisor) e, ap (λ (c : Bezout). c .s) e, ap (λ (c : Bezout). c .t) e, refl, f)
+
+pub column-reduced : (m g s t p n : ℕ) (R W r l : List ℕ) → 0 < length R → length R ≡ length W → RowKept m R → Below m W
+    → 0 < getD W 0 0 → (getD W 0 0 % getD R 0 0 ≡ 0 → ⊥) → Reduction m (getD R 0 0) (getD W 0 0) g s t p n
+    → r ≡ combine m s t (lent 1 R) (lent 1 W)
+    → l ≡ combine m p n (lent 1 R) (lent 1 W)
+    → Inserted m R W (set (putBack 1 R r) 0 g) (putBack 1 W l)
+column-reduced m g s t p n [] W r l h e k b q z x i j = absurd (omega arith)
+column-reduced m g s t p n (d ∷ R) [] r l h e k b q z x i j = absurd (omega arith)
+column-reduced m g s t p n (d ∷ R) (zero ∷ W) r l h e k b q z x i j = absurd (omega arith)
+column-reduced m g s t p n (d ∷ R) (suc v ∷ W) r l h e k b q z (eg, es, et, ep, en) i j =
+    subst₂ (Inserted m (d ∷ R) (suc v ∷ W)) (sym (ap (λ (w : List ℕ). set w 0 g) (put-back-is 1 (d ∷ R) r)))
+    (sym (put-back-is 1 (suc v ∷ W) l)) (record {
+      same = λ B. reduced-insert m d v R W B z
+          ∙ ap₂ {C = List (List ℕ)} (λ u w. u ∷ insert m B w) (sym row) (sym line);
+      kept = (positive, small, subst (Below m) (sym f) (below-combine m s t R W (omega (arith, k .0, k .1))));
+      below = (b .0, subst (Below m) (sym y) (below-combine m p n R W (omega (arith, k .0, k .1))));
+    })
+  where
+    f : r ≡ combine m s t R W
+    f = i ∙ ap₂ (combine m s t) (lent-is 1 (d ∷ R)) (lent-is 1 (suc v ∷ W))
+
+    y : l ≡ combine m p n R W
+    y = j ∙ ap₂ (combine m p n) (lent-is 1 (d ∷ R)) (lent-is 1 (suc v ∷ W))
+
+    row : _≡_ {A = List ℕ} (g ∷ r) (gcd d (suc v) ∷ combine m (cofactors m d (suc v) .s) (cofactors m d (suc v) .t) R W)
+    row = ap₂ {C = List ℕ} (λ u w. u ∷ w) eg (f ∙ ap₂ (λ (u w : ℕ). combine m u w R W) es et)
+
+    line : l ≡ combine m (suc v / gcd d (suc v)) (negative m (d / gcd d (suc v)) % m) R W
+    line =
+        y ∙ ap₂ (λ (u w : ℕ). combine m u w R W) (ep ∙ ap (λ (u : ℕ). suc v / u) eg)
+        (en ∙ ap (λ (u : ℕ). negative m (d / u) % m) eg)
+
+    positive : 0 < g
+    positive = subst (λ (u : ℕ). 0 < u) (sym eg) (gcd-positive d (suc v) (omega arith))
+
+    small : g ≤ m
+    small = omega (arith, eg, divides-le (k .0) (gcd-divides-left d (suc v)))

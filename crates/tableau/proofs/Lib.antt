@@ -1,0 +1,7 @@
+-- Laws that the proofs of this crate's functions cite.
+pub mod Combined
+pub mod Stores
+pub mod Parts
+pub mod Packed
+pub mod Column
+pub mod Walk

@@ -1,0 +1,66 @@
+-- Packed rows, one row more.
+--   rows-split       the first row and the rows behind it
+--   rows-behind      a row in front of packed rows
+--   triangle-front   the first row lies in the list
+--   triangle-behind  and this is what lies behind it
+--   clear-next       a blank row in front of a cleared basis
+use mathlib.Core.Path.{_≡_, refl, ap, ap₂, _∙_}
+use mathlib.Core.List.{List, _∷_, _++_}
+use Prim.Native.Nat.{ℕ, zero, suc, pred, _+_, _-_, _<_, _≤_}
+use native.Mathlib.Omega.{arith}
+use lib.ListN.{length, take, drop, replicate, length-append, length-drop}
+use lib.Seq.{take-at, drop-at, length-take-le}
+use Rattle.elimination.specs.Basis.{empty}
+use Rattle.tableau.specs.Packed.{rows, triangle}
+use Rattle.tableau.proofs.Parts.{lent, lent-behind}
+
+pub rows-split : (w l : ℕ) (s : List ℕ) → 0 < w → rows w l s ≡ take l s ∷ rows (w - 1) (l - 1) (drop l s)
+rows-split zero l s h = absurd (omega arith)
+rows-split (suc w) l s h =
+    let e : suc w - 1 ≡ w = omega arith in
+    let f : l - 1 ≡ pred l = omega arith in
+    rw (e, f)
+
+pub rows-behind : (w l : ℕ) (r x : List ℕ) → 0 < w → length r ≡ l → rows w l (r ++ x) ≡ r ∷ rows (w - 1) (l - 1) x
+rows-behind w l r x h g =
+    rows-split w l (r ++ x) h
+    ∙ ap₂ {C = List (List ℕ)} (λ a c. a ∷ rows (w - 1) (l - 1) c) (take-at r x l g) (drop-at r x l g)
+
+pub triangle-front : (w l : ℕ) → 0 < w → l ≤ triangle w l
+triangle-front zero l h = absurd (omega arith)
+triangle-front (suc w) l h = omega arith
+
+pub triangle-behind : (w l : ℕ) → 0 < w → triangle w l ≡ l + triangle (w - 1) (l - 1)
+triangle-behind zero l h = absurd (omega arith)
+triangle-behind (suc w) l h =
+    let e : suc w - 1 ≡ w = omega arith in
+    let f : l - 1 ≡ pred l = omega arith in
+    rw (e, f)
+
+pub rows-fit : (w l : ℕ) (b : List ℕ) → 0 < w → length b ≡ triangle w l → l ≤ length b
+rows-fit w l b h g = omega (arith, triangle-front w l h)
+
+-- the first row is lent and comes back as r; what is lent next is packed as well
+pub behind-length : (w l : ℕ) (b r : List ℕ) → 0 < w → length b ≡ triangle w l → length r ≡ l
+    → length (lent l (r ++ drop l b)) ≡ triangle (w - 1) (l - 1)
+behind-length w l b r h g e =
+    ap length (lent-behind l r (drop l b) e) ∙ length-drop l b ∙ omega (arith, triangle-behind w l h)
+
+pub front-length : (w l : ℕ) (b : List ℕ) → 0 < w → length b ≡ triangle w l → length (take l b) ≡ l
+front-length w l b h g = length-take-le l b (rows-fit w l b h g)
+
+pub joined-fit : (l : ℕ) (b r : List ℕ) → length r ≡ l → l ≤ length (r ++ drop l b)
+joined-fit l b r e = omega (arith, length-append r (drop l b))
+
+-- the blank row r is one of w + k numbers, as the code has it
+pub clear-next : (m k w : ℕ) (r x : List ℕ) → 0 < w → length r ≡ w + k → r ≡ m ∷ replicate (w + k - 1) 0
+    → rows (w - 1) (w - 1 + k) x ≡ empty m k (w - 1) → rows w (w + k) (r ++ x) ≡ empty m k w
+clear-next m k zero r x h g e f = absurd (omega arith)
+clear-next m k (suc w) r x h g e f =
+    let a : suc w - 1 ≡ w = omega arith in
+    let b : suc w + k - 1 ≡ w + k = omega arith in
+    rows-behind (suc w) (suc w + k) r x h g ∙ (rw (e, a, b) (ap (λ (B : List (List ℕ)). (m ∷ replicate (w + k) 0) ∷ B) (rw a at f)))
+
+pub clear-none : (m k w : ℕ) (s : List ℕ) → w ≡ 0 → rows w (w + k) s ≡ empty m k w
+clear-none m k zero s h = refl
+clear-none m k (suc w) s h = absurd (omega arith)

@@ -1,0 +1,181 @@
+-- `insertion::insert_at` meets its contract: a law of proofs/Column.antt for each way out.
+use mathlib.Core.Path.{sym, ap, _∙_, subst}
+use Prim.Native.Nat.{ℕ, _-_, _/_}
+use native.Mathlib.Omega.{arith}
+use lib.ListN.{getD}
+use borrow.Author.Needs.{needs}
+use native.Mathlib.Nat.{div-le-self}
+use Rattle.equations.proofs.Vectors.{Below}
+use Rattle.tableau.proofs.Parts.{lent-is, lent-length}
+use Rattle.tableau.proofs.Combined.{below-at, below-drop}
+use Rattle.tableau.proofs.Column.{row-head, divisor-positive, reduction, column-zero, column-divided, column-reduced}
+use Rattle.tableau.proofs.insertion.insert_at.Statement.{statement}
+use Rattle.tableau.proofs.insertion.insert_at.Tie as tie
+
+slice-read-d : tie.Need-slice-read-d
+slice-read-d c = search needs
+
+slice-read-v : tie.Need-slice-read-v
+slice-read-v c = search needs
+
+rem-if2 : tie.Need-rem-if2
+rem-if2 c =
+    let z = c .before .before .before .before .before in
+    omega (arith, row-head (z .args .m) (z .args .row .now) (z .pre .0) (z .pre .2))
+
+sub-reduce : tie.Need-sub-reduce
+sub-reduce c = search needs
+
+part-reduce-start : tie.Need-part-reduce-start
+part-reduce-start c = search needs
+
+part-reduce-end : tie.Need-part-reduce-end
+part-reduce-end c = search needs
+
+sub-reduce-2 : tie.Need-sub-reduce-2
+sub-reduce-2 c = search needs
+
+part-reduce-start-2 : tie.Need-part-reduce-start-2
+part-reduce-start-2 c = search needs
+
+part-reduce-end-2 : tie.Need-part-reduce-end-2
+part-reduce-end-2 c = search needs
+
+div-reduce : tie.Need-div-reduce
+div-reduce c =
+    let z = c .before .before .before .before .before .before .before .before .before in
+    omega (arith, row-head (z .args .m) (z .args .row .now) (z .pre .0) (z .pre .2))
+
+reduce-requires : tie.Need-reduce-requires
+reduce-requires c κs =
+    let z = c .before .before .before .before .before .before .before .before .before in
+    let R = z .args .row .now in
+    let W = z .args .line .now in (
+      omega (arith, below-at (z .args .m) 0 W (z .pre .3) (omega arith), div-le-self (getD W 0 0) (getD R 0 0)),
+      lent-length 1 R ∙ ap (λ (n : ℕ). n - 1) (z .pre .1) ∙ sym (lent-length 1 W),
+      subst (Below (z .args .m)) (sym (lent-is 1 W)) (below-drop (z .args .m) 1 W (z .pre .3)),
+    )
+
+cofactors-requires : tie.Need-cofactors-requires
+cofactors-requires c κs =
+    let z = c .before .before .before .before .before .before in
+    omega (arith, row-head (z .args .m) (z .args .row .now) (z .pre .0) (z .pre .2))
+
+sub-combine-both : tie.Need-sub-combine-both
+sub-combine-both c = search needs
+
+part-combine-both-start : tie.Need-part-combine-both-start
+part-combine-both-start c = search needs
+
+part-combine-both-end : tie.Need-part-combine-both-end
+part-combine-both-end c = search needs
+
+sub-combine-both-2 : tie.Need-sub-combine-both-2
+sub-combine-both-2 c = search needs
+
+part-combine-both-start-2 : tie.Need-part-combine-both-start-2
+part-combine-both-start-2 c = search needs
+
+part-combine-both-end-2 : tie.Need-part-combine-both-end-2
+part-combine-both-end-2 c = search needs
+
+div-combine-both : tie.Need-div-combine-both
+div-combine-both c =
+    let z = c .before .before .before .before .before .before .before .before .before in
+    divisor-positive (z .args .m) (getD (z .args .row .now) 0 0) (getD (z .args .line .now) 0 0) (c .before .before .cofactors .result)
+    (omega arith) (c .before .before .cofactors .ensures .0)
+
+div-negate : tie.Need-div-negate
+div-negate c =
+    let z = c .before .before .before .before .before .before .before .before .before in
+    divisor-positive (z .args .m) (getD (z .args .row .now) 0 0) (getD (z .args .line .now) 0 0) (c .before .before .cofactors .result)
+    (omega arith) (c .before .before .cofactors .ensures .0)
+
+negate-requires : tie.Need-negate-requires
+negate-requires c κs = search needs
+
+combine-both-requires : tie.Need-combine-both-requires
+combine-both-requires c κs =
+    let z = c .before .before .before .before .before .before .before .before .before .before in
+    let R = z .args .row .now in
+    let W = z .args .line .now in (
+      omega arith,
+      omega arith,
+      omega (arith, below-at (z .args .m) 0 W (z .pre .3) (omega arith), div-le-self (getD W 0 0) (c .before .before .before .cofactors .result .divisor)),
+      omega arith,
+      lent-length 1 R ∙ ap (λ (n : ℕ). n - 1) (z .pre .1) ∙ sym (lent-length 1 W),
+    )
+
+slice-write-row : tie.Need-slice-write-row
+slice-write-row c = search needs
+
+same-length : tie.Need-same-length
+same-length c = search needs
+
+same-length-2 : tie.Need-same-length-2
+same-length-2 c = search needs
+
+returns : tie.Need-returns
+returns c =
+    let z = c .before .before .before .before .before .before .before .before .before .before .before .before in
+    let a = z .args in
+    column-divided (a .m) (a .row .now) (a .line .now) (c .before .before .reduce .last .1 .0)
+    (z .pre .0) (z .pre .1) (z .pre .2) (z .pre .3) (omega arith) (omega arith) (c .before .before .reduce .ensures)
+
+same-length-3 : tie.Need-same-length-3
+same-length-3 c = search needs
+
+same-length-4 : tie.Need-same-length-4
+same-length-4 c = search needs
+
+returns-2 : tie.Need-returns-2
+returns-2 c =
+    let z = c .before .before .before .before .before .before .before .before .before .before .before .before .before .before .before in
+    let a = z .args in
+    let f = c .before .before .before .before .before .before .before .before .cofactors in
+    let k = c .before .before .before .before .combine-both in
+    column-reduced (a .m) (f .result .divisor) (f .result .s) (f .result .t) (getD (a .line .now) 0 0 / f .result .divisor) (c .before .before .before .before .before .negate .result)
+    (a .row .now) (a .line .now) (k .last .0) (k .last .1 .0)
+    (z .pre .0) (z .pre .1) (z .pre .2) (z .pre .3) (omega arith) (λ e. omega arith)
+    (reduction (a .m) (getD (a .row .now) 0 0) (getD (a .line .now) 0 0) (f .result) (c .before .before .before .before .before .negate .result) (f .ensures .0) (c .before .before .before .before .before .negate .ensures .0))
+    (k .ensures .0) (k .ensures .1)
+
+returns-3 : tie.Need-returns-3
+returns-3 c =
+    let z = c .before .before .before .before .before in
+    column-zero (z .args .m) (z .args .row .now) (z .args .line .now) (z .pre .0) (z .pre .1) (z .pre .2) (z .pre .3) (omega arith)
+
+pub insert-at-spec : {M : Type 1} → statement M
+insert-at-spec =
+    tie.close
+    (tie.spec
+    slice-read-d
+    slice-read-v
+    rem-if2
+    sub-reduce
+    part-reduce-start
+    part-reduce-end
+    sub-reduce-2
+    part-reduce-start-2
+    part-reduce-end-2
+    div-reduce
+    reduce-requires
+    cofactors-requires
+    sub-combine-both
+    part-combine-both-start
+    part-combine-both-end
+    sub-combine-both-2
+    part-combine-both-start-2
+    part-combine-both-end-2
+    div-combine-both
+    div-negate
+    negate-requires
+    combine-both-requires
+    slice-write-row
+    same-length
+    same-length-2
+    returns
+    same-length-3
+    same-length-4
+    returns-2
+    returns-3)

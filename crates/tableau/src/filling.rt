@@ -1,0 +1,39 @@
+// Lists that do not depend on any row: zeros, a unit vector, a vector turned round.
+ghost use mathlib.Core.Path.{_≡_};
+ghost use mathlib.Core.List.{[]};
+ghost use Prim.Native.Nat.{_≤_};
+ghost use lib.ListN.{length, replicate};
+ghost use Rattle.elimination.specs.Tableau.{turned, unit};
+
+pub fn zeros(out: &mut [u32])
+    ensures { λ _. ⌜ now (out .exit) ≡ replicate (length (now (out .entry))) 0 ⌝ }
+{
+    let mut i = 0;
+    while i < out.len() {
+        out[i] = 0;
+        i += 1;
+    }
+}
+
+// A 1 at place i, which may lie behind the end: then there is none.
+pub fn unit_vector(out: &mut [u32], i: usize)
+    ensures { λ _. ⌜ now (out .exit) ≡ unit (length (now (out .entry))) i ⌝ }
+{
+    zeros(out);
+    if i < out.len() {
+        out[i] = 1;
+    }
+}
+
+// As many entries of x as out has, in reverse order.
+pub fn turn(x: &[u32], out: &mut [u32])
+    requires { ⌜ length (now out) ≤ length (now x) ⌝ }
+    ensures { λ _. ⌜ now (out .exit) ≡ turned (length (now (out .entry))) (now (x .entry)) [] ⌝ }
+{
+    let n = out.len();
+    let mut i = 0;
+    while i < n {
+        out[n - 1 - i] = x[i];
+        i += 1;
+    }
+}

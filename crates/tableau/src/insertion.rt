@@ -1,0 +1,56 @@
+// A line put into a basis, column by column.
+ghost use mathlib.Core.Path.{_≡_};
+ghost use Prim.Native.Nat.{_<_, _≤_};
+ghost use lib.ListN.{length};
+ghost use Rattle.equations.proofs.Vectors.{Below};
+ghost use Rattle.elimination.specs.Basis.{insert};
+ghost use Rattle.tableau.specs.Packed.{rows, triangle, Kept, RowKept};
+ghost use Rattle.tableau.specs.Column.{Inserted};
+use crate::line::combine_both;
+use crate::line::reduce;
+use residue::extended::cofactors;
+use residue::modular::negate;
+
+// One column. Nothing is done where the line's entry is 0, and the row stays where its pivot divides the entry.
+pub fn insert_at(row: &mut [u32], line: &mut [u32], m: u32)
+    requires { ⌜ (0 < length (now row)) × (length (now row) ≡ length (now line)) × RowKept m (now row) × Below m (now line) ⌝ }
+    ensures { λ _. ⌜ Inserted m (now (row .entry)) (now (line .entry)) (now (row .exit)) (now (line .exit)) ⌝ }
+{
+    let d = row[0];
+    let v = line[0];
+    if v > 0 {
+        if v % d == 0 {
+            reduce(&row[1..], &mut line[1..], m, v / d);
+        } else {
+            let c = cofactors(m, d, v);
+            let g = c.divisor;
+            let s = c.s;
+            let t = c.t;
+            combine_both(
+                &mut row[1..],
+                &mut line[1..],
+                m,
+                s,
+                t,
+                v / g,
+                negate(d / g, m),
+            );
+            row[0] = g;
+        }
+    }
+}
+
+// The walk over w columns. The rows behind the first one and the line behind its first entry are again a basis and a line.
+pub fn insert(basis: &mut [u32], line: &mut [u32], m: u32, w: usize)
+    requires { ⌜ (w ≤ length (now line)) × (length (now basis) ≡ triangle w (length (now line))) ⌝ }
+    requires { ⌜ Kept m (rows w (length (now line)) (now basis)) × Below m (now line) ⌝ }
+    ensures { λ _. ⌜ rows w (length (now (line .entry))) (now (basis .exit))
+        ≡ insert m (rows w (length (now (line .entry))) (now (basis .entry))) (now (line .entry)) ⌝ }
+    ensures { λ _. ⌜ Kept m (rows w (length (now (line .entry))) (now (basis .exit))) ⌝ }
+{
+    if w > 0 {
+        let len = line.len();
+        insert_at(&mut basis[..len], line, m);
+        insert(&mut basis[len..], &mut line[1..], m, w - 1);
+    }
+}

@@ -1,0 +1,5 @@
+// The elimination of the crate `elimination`, as code over packed rows in lent slices.
+pub mod building;
+pub mod filling;
+pub mod insertion;
+pub mod line;

@@ -1,0 +1,56 @@
+//! The calls of include/milebadger.h as Rust sees them. Each gets memory with a guard on both sides, filled with numbers
+//! that differ from place to place, so that a number written, moved or cleared anywhere shows.
+#![allow(dead_code)]
+
+extern "C" {
+    fn milebadger_gcd(a: u32, b: u32, out: *mut u32, out_len: usize) -> i64;
+    fn milebadger_congruence(a: u32, b: u32, m: u32, out: *mut u32, out_len: usize) -> i64;
+}
+
+/// What a call gave back: its result, and the lent memory after it.
+#[derive(Clone, Debug, PartialEq)]
+pub struct Reply {
+    pub result: i64,
+    pub memory: Vec<u32>,
+}
+
+/// What lent memory of this length holds before a call.
+pub fn untouched(len: usize) -> Vec<u32> {
+    (0..len as u32).map(|place| 0xC0DE_0000 + place).collect()
+}
+
+/// The reply of a call that refuses, or has nothing to write.
+pub fn silent(result: i64, len: usize) -> Reply {
+    Reply { result, memory: untouched(len) }
+}
+
+/// The reply of a call that has these numbers to write: minus 8 where they do not fit.
+pub fn writing(result: i64, numbers: &[u32], len: usize) -> Reply {
+    if len < numbers.len() {
+        return silent(-8, len);
+    }
+    let mut memory = untouched(len);
+    memory[..numbers.len()].copy_from_slice(numbers);
+    Reply { result, memory }
+}
+
+const GUARD: u32 = 0xFACE_FACE;
+const GUARDS: usize = 4;
+
+fn lend(len: usize, call: impl FnOnce(*mut u32, usize) -> i64) -> Reply {
+    let mut all = vec![GUARD; GUARDS];
+    all.extend(untouched(len));
+    all.extend([GUARD; GUARDS]);
+    let result = call(all[GUARDS..].as_mut_ptr(), len);
+    assert_eq!(all[..GUARDS], [GUARD; GUARDS], "written in front of the lent memory");
+    assert_eq!(all[GUARDS + len..], [GUARD; GUARDS], "written behind the lent memory");
+    Reply { result, memory: all[GUARDS..GUARDS + len].to_vec() }
+}
+
+pub fn gcd(a: u32, b: u32, len: usize) -> Reply {
+    lend(len, |out, len| unsafe { milebadger_gcd(a, b, out, len) })
+}
+
+pub fn congruence(a: u32, b: u32, m: u32, len: usize) -> Reply {
+    lend(len, |out, len| unsafe { milebadger_congruence(a, b, m, out, len) })
+}
