@@ -6,11 +6,12 @@
 use mathlib.Core.Path.{_≡_, refl, sym, ap, _∙_}
 use mathlib.Core.Logic.{_⊎_, inl, inr}
 use mathlib.Core.List.{List, [], _∷_}
-use mathlib.Core.Option.{Option, none, some}
+use mathlib.Core.Option.{none, some}
 use Prim.Native.Nat.{ℕ, suc, _+_, _*_, _/_, _<_}
 use native.Mathlib.Nat.{one-mul}
 use native.Mathlib.Omega.{arith}
 use lib.ListN.{length, drop, length-drop}
+use Rattle.residue.specs.Congruent.{Congruent}
 use Rattle.residue.proofs.Congruent.{congruent-of, congruent-of-eq, congruent-trans, congruent-small}
 use Rattle.residue.proofs.Divides.{factor-positive, factor-div}
 use Rattle.equations.specs.Equation.{Equation, Shaped}
@@ -20,7 +21,6 @@ use Rattle.elimination.specs.Basis.{pivot}
 use Rattle.elimination.specs.Tableau.{tableau, tableauStart, tableauStep}
 use Rattle.elimination.proofs.Modulus.{factor-or-below, cofactor-below}
 use Rattle.elimination.proofs.Zeros.{Sat}
-use Rattle.elimination.proofs.Closure.{Good}
 use Rattle.elimination.proofs.Row.{RowAt, row-at}
 use Rattle.elimination.proofs.Tableau.{length-tableau, good-tableau}
 use Rattle.elimination.proofs.Start.{start-first, start-none}
@@ -32,7 +32,9 @@ empty-list (r ∷ B) h = absurd (omega arith)
 
 module _ (m n k : ℕ) (es : List Equation) (pos : 0 < m) (shaped : Shaped n es) where
   pub row-of : (i : ℕ) → i < n + 1 → RowAt m k i (tableau m n k es)
-  row-of i h = row-at m k i (tableau m n k es) (good-tableau m n k es pos shaped) (omega (arith, length-tableau m n k es pos shaped))
+  row-of i h =
+      row-at m k i (tableau m n k es) (good-tableau m n k es pos shaped)
+      (omega (arith, length-tableau m n k es pos shaped))
 
   pub last-row : (a : RowAt m k n (tableau m n k es)) → drop n (tableau m n k es) ≡ (a .d ∷ a .r) ∷ []
   last-row a =
@@ -57,7 +59,8 @@ module _ (m n k : ℕ) (es : List Equation) (pos : 0 < m) (shaped : Shaped n es)
       no-one : (a : RowAt m k n (tableau m n k es)) → (a .d ≡ m) ⊎ (a .d < m) → Sat m ((a .d ∷ a .r) ∷ []) (1 ∷ []) → ⊥
       no-one a (inl e) sat = h (a .pivot-is ∙ e)
       no-one a (inr lt) sat =
-          let z : a .d ≡ 0 = congruent-small lt pos (congruent-trans (congruent-of-eq (omega (arith, dot-nil (a .r)))) (sat .0)) in
+          let d≡0 : Congruent m (a .d) 0 = congruent-trans (congruent-of-eq (omega (arith, dot-nil (a .r)))) (sat .0) in
+          let z : a .d ≡ 0 = congruent-small lt pos d≡0 in
           omega (arith, z, factor-positive m (a .d) (a .e) (a .factor) pos)
 
       go : RowAt m k n (tableau m n k es) → startOf m n es ≡ none
@@ -72,7 +75,8 @@ module _ (m n k : ℕ) (es : List Equation) (pos : 0 < m) (shaped : Shaped n es)
         → stepAt m n es j ≡ some (tableauStep m i j (tableau m n k es) (m / pivot i (tableau m n k es)))
     answer-step h = go (row-of i (omega arith))
       where
-        go : RowAt m k i (tableau m n k es) → stepAt m n es j ≡ some (tableauStep m i j (tableau m n k es) (m / pivot i (tableau m n k es)))
+        go : RowAt m k i (tableau m n k es)
+            → stepAt m n es j ≡ some (tableauStep m i j (tableau m n k es) (m / pivot i (tableau m n k es)))
         go a =
             rw (a .pivot-is, factor-div (a .d) (a .e) (factor-positive m (a .d) (a .e) (a .factor) pos) (a .factor))
             (step-first m n k es pos shaped i j places (a .d) (a .e) (a .r) (a .rest) (a .here) (a .factor)

@@ -5,16 +5,16 @@
 --   zeros-basis        and back, for X of w entries
 use mathlib.Core.Path.{_≡_, refl, sym, ap, _∙_}
 use mathlib.Core.List.{List, [], _∷_}
-use Prim.Native.Nat.{ℕ, zero, suc, _+_, _*_, _≤_, _<_}
+use Prim.Native.Nat.{ℕ, zero, suc, _+_, _≤_, _<_}
 use native.Mathlib.Omega.{arith}
-use lib.ListN.{length, replicate, length-replicate}
+use lib.ListN.{length, length-replicate}
 use Rattle.residue.specs.Congruent.{Congruent}
 use Rattle.residue.proofs.Congruent.{congruent-of, congruent-of-eq}
 use Rattle.equations.specs.Equation.{dot}
 use Rattle.equations.proofs.Dot.{dot-zeros}
 use Rattle.elimination.specs.Basis.{insert, inserts, empty, basis}
 use Rattle.elimination.proofs.Zeros.{Shape, Sat, length-insert, sat-insert, insert-sat}
-use Rattle.elimination.proofs.Closure.{Closed, Closure, Good, good-insert}
+use Rattle.elimination.proofs.Closure.{Closure, Good, good-insert}
 
 abbrev pub Long : ℕ → List (List ℕ) → Type 0
 Long w [] = Unit {0}
@@ -71,7 +71,8 @@ module _ (m w k : ℕ) (pos : 0 < m) where
       → Sat m (inserts m B ls) X → Sat m B X × Zeros m ls X
   inserts-sat B [] X lb good long lx sat = (sat, tt)
   inserts-sat B (l ∷ ls) X lb good long lx sat =
-      let after = inserts-sat (insert m B l) ls X (length-insert m B l ∙ lb) (good-insert m k B l pos good (omega arith)) (long .1) lx sat in
+      let next = good-insert m k B l pos good (omega arith) in
+      let after = inserts-sat (insert m B l) ls X (length-insert m B l ∙ lb) next (long .1) lx sat in
       let before = insert-sat m k B l X pos (good .shape) (omega arith) (lx ∙ sym lb) (after .0) in
       (before .0, (before .1, after .1))
 
@@ -85,12 +86,14 @@ module _ (m w k : ℕ) (pos : 0 < m) where
   unfolding basis
   good-basis ls long = good-inserts (empty m k w) ls (length-empty m k w) (good-empty m k w pos) long
 
-  pub sat-basis : (ls : List (List ℕ)) (X : List ℕ) → Long (w + k) ls → w ≤ length X → Zeros m ls X → Sat m (basis m w k ls) X
+  pub sat-basis : (ls : List (List ℕ)) (X : List ℕ) → Long (w + k) ls → w ≤ length X → Zeros m ls X
+      → Sat m (basis m w k ls) X
   unfolding basis
   sat-basis ls X long lx zeros =
       sat-inserts (empty m k w) ls X (length-empty m k w) (good-empty m k w pos) long (sat-empty m k w X lx) zeros
 
-  pub zeros-basis : (ls : List (List ℕ)) (X : List ℕ) → Long (w + k) ls → length X ≡ w → Sat m (basis m w k ls) X → Zeros m ls X
+  pub zeros-basis : (ls : List (List ℕ)) (X : List ℕ) → Long (w + k) ls → length X ≡ w → Sat m (basis m w k ls) X
+      → Zeros m ls X
   unfolding basis
   zeros-basis ls X long lx sat =
       inserts-sat (empty m k w) ls X (length-empty m k w) (good-empty m k w pos) long lx sat .1

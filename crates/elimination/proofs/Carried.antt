@@ -3,7 +3,7 @@
 -- Every line is 0 at it, so the row is.
 --   valueAt, carried-value      Σ ks·(value at x, y) ≡ d·y for every x and y
 --   sum-zero                    sums of pairs that cancel
-use mathlib.Core.Path.{_≡_, refl, sym, ap, _∙_}
+use mathlib.Core.Path.{_≡_, refl, sym, _∙_}
 use mathlib.Core.List.{List, [], _∷_, reverseAux, map}
 use Prim.Native.Nat.{ℕ, zero, suc, _+_, _*_, _%_, _<_}
 use native.Mathlib.Omega.{arith}
@@ -57,13 +57,15 @@ module _ (m n k : ℕ) (pos : 0 < m) (x : List ℕ) (y : ℕ) (lx : length x ≡
     zeros-at (suc i) es (shaped .1) (omega arith) (drop-next i C _ _ e),
   )
 
-pub sum-zero : (m : ℕ) (f g : Equation → ℕ) (ks : List ℕ) (es : List Equation) → ((e : Equation) → Congruent m (f e + g e) 0)
+pub sum-zero : (m : ℕ) (f g : Equation → ℕ) (ks : List ℕ) (es : List Equation)
+    → ((e : Equation) → Congruent m (f e + g e) 0)
     → Congruent m (dot ks (map f es) + dot ks (map g es)) 0
 sum-zero m f g [] es h = congruent-of-eq (omega arith)
 sum-zero m f g (a ∷ ks) [] h = congruent-of-eq (omega arith)
 sum-zero m f g (a ∷ ks) (e ∷ es) h =
     congruent-trans {b = a * (f e + g e) + (dot ks (map f es) + dot ks (map g es))} (congruent-of-eq (omega arith))
-    (congruent-trans (congruent-add (congruent-mul (congruent-refl {a = a}) (h e)) (sum-zero m f g ks es h)) (congruent-of-eq (omega arith)))
+    (congruent-trans (congruent-add (congruent-mul (congruent-refl {a = a}) (h e)) (sum-zero m f g ks es h))
+    (congruent-of-eq (omega arith)))
 
 module _ (m n : ℕ) (es : List Equation) (pos : 0 < m) (shaped : Shaped n es)
     (d : ℕ) (ks : List ℕ) (last : drop n (tableau m n (length es) es) ≡ (d ∷ ks) ∷ []) where
@@ -71,7 +73,8 @@ module _ (m n : ℕ) (es : List Equation) (pos : 0 < m) (shaped : Shaped n es)
   unfolding tableau
   carried-value x y lx =
       congruent-cancel (dot ks C)
-      (congruent-trans (sum-zero m (valueAt m x y) (minusAt m x y) ks es (λ e. negative-is m (valueAt m x y e) pos)) (congruent-sym (row .0)))
+      (congruent-trans (sum-zero m (valueAt m x y) (minusAt m x y) ks es (λ e. negative-is m (valueAt m x y e) pos))
+      (congruent-sym (row .0)))
     where
       k : ℕ
       k = length es
@@ -85,4 +88,6 @@ module _ (m n : ℕ) (es : List Equation) (pos : 0 < m) (shaped : Shaped n es)
           (omega (arith, length-reverseAux x (y ∷ C))) (zeros-at m n k pos x y lx C 0 es shaped (omega arith) refl)
 
       row : Sat m ((d ∷ ks) ∷ []) (y ∷ C)
-      row = rw (last, drop-reverse n 0 x (y ∷ C) (omega arith)) at (sat-drop m n (tableau m n (length es) es) (reverseAux x (y ∷ C)) sat)
+      row =
+          rw (last, drop-reverse n 0 x (y ∷ C) (omega arith)) at
+          (sat-drop m n (tableau m n (length es) es) (reverseAux x (y ∷ C)) sat)

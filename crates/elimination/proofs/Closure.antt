@@ -4,7 +4,7 @@
 --   Good                 the form of a basis and its closure
 --   good-insert          an insertion keeps both
 --   good-tail            and so does leaving off the first row
-use mathlib.Core.Path.{_≡_, refl, sym, ap, _∙_}
+use mathlib.Core.Path.{_≡_, ap, _∙_}
 use mathlib.Core.List.{List, [], _∷_}
 use Prim.Native.Nat.{ℕ, zero, suc, _+_, _*_, _<_}
 use native.Mathlib.Nat.{mul-assoc}
@@ -15,10 +15,10 @@ use Rattle.residue.proofs.Congruent.{congruent-of-eq, congruent-refl, congruent
 use Rattle.equations.specs.Vectors.{combine}
 use Rattle.equations.specs.Equation.{dot}
 use Rattle.equations.proofs.Dot.{length-combine, dot-combine}
-use Rattle.elimination.specs.Step.{Step, stepOf}
+use Rattle.elimination.specs.Step.{stepOf}
 use Rattle.elimination.specs.Basis.{insert}
 use Rattle.elimination.proofs.Unimodular.{Unimodular, row-back}
-use Rattle.elimination.proofs.Step.{Numbers, step-numbers}
+use Rattle.elimination.proofs.Step.{step-numbers}
 use Rattle.elimination.proofs.Zeros.{Shape, Sat, length-insert, shape-insert, insert-sat}
 
 -- of the row d ∷ r above the rows B; e is m / d
@@ -44,7 +44,8 @@ closed-step {m} {q} {p} {s} {t} {n} e R L N u new line row =
     (congruent-trans {b = e * (q * (s * R + t * L) + t * 0)} (congruent-of-eq (omega arith))
     (congruent-trans
     (congruent-mul (congruent-refl {a = e})
-    (congruent-trans (congruent-add (congruent-refl {a = q * (s * R + t * L)}) (congruent-mul (congruent-refl {a = t}) (congruent-sym line)))
+    (congruent-trans
+    (congruent-add (congruent-refl {a = q * (s * R + t * L)}) (congruent-mul (congruent-refl {a = t}) (congruent-sym line)))
     (row-back R L u)))
     row))
 
@@ -71,7 +72,8 @@ closure-insert m k ((d ∷ r) ∷ B) (suc v ∷ W) pos shape len closure =
     let lr : length rest ≡ length B + k = length-combine m _ _ r W e ∙ shape .0 in (
       record {
         e = N .q * closure .0 .e;
-        factor = closure .0 .factor ∙ ap (λ (z : ℕ). z * closure .0 .e) (N .row) ∙ mul-assoc (x .g) (N .q) (closure .0 .e);
+        factor =
+            closure .0 .factor ∙ ap (λ (z : ℕ). z * closure .0 .e) (N .row) ∙ mul-assoc (x .g) (N .q) (closure .0 .e);
         zero = λ X lx sat.
             let lb = lx ∙ length-insert m B rest in
             let before = insert-sat m k B rest X pos (shape .2) lr lb sat in
@@ -81,7 +83,8 @@ closure-insert m k ((d ∷ r) ∷ B) (suc v ∷ W) pos shape len closure =
       closure-insert m k B rest pos (shape .2) lr (closure .1),
     )
 
-pub good-insert : (m k : ℕ) (B : List (List ℕ)) (W : List ℕ) → 0 < m → Good m k B → length W ≡ length B + k → Good m k (insert m B W)
+pub good-insert : (m k : ℕ) (B : List (List ℕ)) (W : List ℕ) → 0 < m → Good m k B → length W ≡ length B + k
+    → Good m k (insert m B W)
 good-insert m k B W pos good len = record {
   shape = shape-insert m k B W pos (good .shape) len;
   closure = closure-insert m k B W pos (good .shape) len (good .closure);

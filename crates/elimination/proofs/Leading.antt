@@ -3,12 +3,11 @@
 --   Leading, leading-point     what the point of such a vector is
 --   leads-turned               and back
 --   colex-drop                 points that differ behind the first i columns
-use mathlib.Core.Path.{_≡_, refl, sym, ap, _∙_}
-use mathlib.Core.Logic.{_⊎_, inl, inr}
+use mathlib.Core.Path.{_≡_, refl}
+use mathlib.Core.Logic.{inl}
 use mathlib.Core.List.{List, [], _∷_, reverseAux}
-use mathlib.Core.Bool.{Bool, _&&_}
-use Prim.Native.Nat.{ℕ, zero, suc, _+_, _*_, _≤_, _<_}
-use native.Mathlib.Nat.{suc-inj, zero-lt-suc}
+use Prim.Native.Nat.{ℕ, zero, suc, _+_, _≤_, _<_}
+use native.Mathlib.Nat.{zero-lt-suc}
 use native.Mathlib.Omega.{arith}
 use lib.ListN.{length, take, drop, replicate}
 use lib.Dec.{T, eqb, eqb→eq, eqb·suc-zero}
@@ -66,7 +65,8 @@ leading-point m i (suc j) k z (x ∷ v) lw zs below t =
     rw (eqb→eq x 0 (p .0)) (leading-point m i j (suc k) z v (omega arith) (omega arith) (below .1) (p .1))
 
 -- zeros in front shift the place
-leads-zeros : (j c z : ℕ) (acc : List ℕ) → z ≡ j + c → T (leadsAt c acc) → T (leadsAt z (turned j (replicate (suc j) 0) acc))
+leads-zeros : (j c z : ℕ) (acc : List ℕ) → z ≡ j + c → T (leadsAt c acc)
+    → T (leadsAt z (turned j (replicate (suc j) 0) acc))
 leads-zeros zero c z acc h t = let e : z ≡ c = omega arith in rw e t
 leads-zeros (suc j) c z acc h t = leads-zeros j (suc c) z (0 ∷ acc) (omega arith) t
 
@@ -74,7 +74,8 @@ not-zero : (e : ℕ) (acc : List ℕ) → 0 < e → T (leadsAt 0 (e ∷ acc))
 not-zero zero acc h = absurd (omega arith)
 not-zero (suc e) acc h = rw (eqb·suc-zero e) tt
 
-pub leads-turned : (n i j e : ℕ) (Y acc : List ℕ) → n ≡ i + suc j → 0 < e → drop i Y ≡ e ∷ replicate (suc j) 0 → T (leadsAt j (turned n Y acc))
+pub leads-turned : (n i j e : ℕ) (Y acc : List ℕ) → n ≡ i + suc j → 0 < e → drop i Y ≡ e ∷ replicate (suc j) 0
+    → T (leadsAt j (turned n Y acc))
 leads-turned zero i j e Y acc h pos is = absurd (omega arith)
 leads-turned (suc n) zero j e [] acc h pos is = absurd (let z : _≡_ {A = ℕ} 0 1 = cc in omega arith)
 leads-turned (suc n) zero j e (y ∷ Y) acc h pos is =

@@ -16,3 +16,4 @@ pub mod Leading
 pub mod Steps
 pub mod Answer
 pub mod Carried
+pub mod Multipliers

@@ -1,5 +1,5 @@
--- The lines of a list of equations: one is 0 at the point of a vector x, with c behind it, exactly where x solves the equation
--- with its right side c times as large; c is 1, or 0 for right sides put to 0.
+-- The lines of a list of equations: one is 0 at the point of a vector x, with c behind it, exactly where x solves the
+-- equation with its right side c times as large; c is 1, or 0 for right sides put to 0.
 --   length-unit, long-lines                         the form of the lines
 --   Holds                                           the congruences that the equations ask
 --   zeros-of-holds, holds-of-zeros                  they hold exactly where the lines are 0
@@ -50,26 +50,33 @@ module _ (m : ℕ) (pos : 0 < m) where
   minus-zero : (b c : ℕ) → Congruent m (b * c + negative m b % m * c) 0
   minus-zero b c =
       congruent-trans {b = (b + negative m b % m) * c} (congruent-of-eq (omega arith))
-      (congruent-trans (congruent-mul (negative-reduced m b pos) (congruent-refl {a = c})) (congruent-of-eq (omega arith)))
+      (congruent-trans (congruent-mul (negative-reduced m b pos) (congruent-refl {a = c}))
+      (congruent-of-eq (omega arith)))
 
   line-of-equation : (e : Equation) (carried x : List ℕ) (c : ℕ) → length (e .coefficients) ≡ length x
-      → Congruent m (dot (e .coefficients) x) (e .right * c) → Congruent m (dot (line m e carried) (reverseAux x (c ∷ []))) 0
+      → Congruent m (dot (e .coefficients) x) (e .right * c)
+      → Congruent m (dot (line m e carried) (reverseAux x (c ∷ []))) 0
   line-of-equation e carried x c h t =
-      congruent-trans (congruent-of-eq (line-at e carried x c h)) (congruent-trans (congruent-add t congruent-refl) (minus-zero (e .right) c))
+      congruent-trans (congruent-of-eq (line-at e carried x c h))
+      (congruent-trans (congruent-add t congruent-refl) (minus-zero (e .right) c))
 
   equation-of-line : (e : Equation) (carried x : List ℕ) (c : ℕ) → length (e .coefficients) ≡ length x
-      → Congruent m (dot (line m e carried) (reverseAux x (c ∷ []))) 0 → Congruent m (dot (e .coefficients) x) (e .right * c)
+      → Congruent m (dot (line m e carried) (reverseAux x (c ∷ []))) 0
+      → Congruent m (dot (e .coefficients) x) (e .right * c)
   equation-of-line e carried x c h z =
       congruent-cancel (negative m (e .right) % m * c)
-      (congruent-trans (congruent-sym (congruent-of-eq (line-at e carried x c h))) (congruent-trans z (congruent-sym (minus-zero (e .right) c))))
+      (congruent-trans (congruent-sym (congruent-of-eq (line-at e carried x c h)))
+      (congruent-trans z (congruent-sym (minus-zero (e .right) c))))
 
   module _ (n k c : ℕ) (x : List ℕ) (lx : length x ≡ n) where
-    pub zeros-of-holds : (i : ℕ) (es : List Equation) → Shaped n es → Holds m c es x → Zeros m (lines m k i es) (reverseAux x (c ∷ []))
+    pub zeros-of-holds : (i : ℕ) (es : List Equation) → Shaped n es → Holds m c es x
+        → Zeros m (lines m k i es) (reverseAux x (c ∷ []))
     zeros-of-holds i [] shaped h = tt
     zeros-of-holds i (e ∷ es) shaped h =
         (line-of-equation e (unit k i) x c (shaped .0 ∙ sym lx) (h .0), zeros-of-holds (suc i) es (shaped .1) (h .1))
 
-    pub holds-of-zeros : (i : ℕ) (es : List Equation) → Shaped n es → Zeros m (lines m k i es) (reverseAux x (c ∷ [])) → Holds m c es x
+    pub holds-of-zeros : (i : ℕ) (es : List Equation) → Shaped n es → Zeros m (lines m k i es) (reverseAux x (c ∷ []))
+        → Holds m c es x
     holds-of-zeros i [] shaped z = tt
     holds-of-zeros i (e ∷ es) shaped z =
         (equation-of-line e (unit k i) x c (shaped .0 ∙ sym lx) (z .0), holds-of-zeros (suc i) es (shaped .1) (z .1))
@@ -79,7 +86,8 @@ module _ (m : ℕ) (pos : 0 < m) where
 pub holds-of-solves : (m : ℕ) (es : List Equation) (x : List ℕ) → T (solves m es x) → Holds m 1 es x
 holds-of-solves m [] x t = tt
 holds-of-solves m (e ∷ es) x t =
-    let p = solves-cons m e es x t in (congruent-trans (p .0) (congruent-of-eq (omega arith)), holds-of-solves m es x (p .1))
+    let p = solves-cons m e es x t in
+    (congruent-trans (p .0) (congruent-of-eq (omega arith)), holds-of-solves m es x (p .1))
 
 pub solves-of-holds : (m : ℕ) (es : List Equation) (x : List ℕ) → Holds m 1 es x → T (solves m es x)
 solves-of-holds m [] x h = tt
@@ -88,8 +96,10 @@ solves-of-holds m (e ∷ es) x h =
 
 pub holds-of-homogeneous : (m : ℕ) (es : List Equation) (x : List ℕ) → Holds m 1 (homogeneous es) x → Holds m 0 es x
 holds-of-homogeneous m [] x h = tt
-holds-of-homogeneous m (e ∷ es) x h = (congruent-trans (h .0) (congruent-of-eq (omega arith)), holds-of-homogeneous m es x (h .1))
+holds-of-homogeneous m (e ∷ es) x h =
+    (congruent-trans (h .0) (congruent-of-eq (omega arith)), holds-of-homogeneous m es x (h .1))
 
 pub homogeneous-of-holds : (m : ℕ) (es : List Equation) (x : List ℕ) → Holds m 0 es x → Holds m 1 (homogeneous es) x
 homogeneous-of-holds m [] x h = tt
-homogeneous-of-holds m (e ∷ es) x h = (congruent-trans (h .0) (congruent-of-eq (omega arith)), homogeneous-of-holds m es x (h .1))
+homogeneous-of-holds m (e ∷ es) x h =
+    (congruent-trans (h .0) (congruent-of-eq (omega arith)), homogeneous-of-holds m es x (h .1))

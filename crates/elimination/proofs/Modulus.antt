@@ -3,7 +3,7 @@
 --   factor-cancel      d·x ≡ 0 (mod m) says that e divides x
 --   factor-or-below    d is m or below it
 --   cofactor-below     e is below m where d is above 1
-use mathlib.Core.Path.{_≡_, _∙_, subst}
+use mathlib.Core.Path.{_≡_, subst}
 use mathlib.Core.Logic.{_⊎_}
 use Prim.Native.Nat.{ℕ, zero, suc, _+_, _*_, _%_, _<_}
 use native.Mathlib.Nat.{eq-or-lt-of-le}

@@ -12,8 +12,7 @@ use Rattle.residue.specs.Divides.{Divides}
 use Rattle.residue.proofs.Divides.{factor-positive}
 use Rattle.equations.proofs.Vectors.{Below}
 use Rattle.elimination.specs.Basis.{pivot}
-use Rattle.elimination.proofs.Zeros.{Shape}
-use Rattle.elimination.proofs.Closure.{Closed, Closure, Good, good-tail}
+use Rattle.elimination.proofs.Closure.{Good, good-tail}
 use Rattle.elimination.proofs.Residues.{TailsBelow}
 
 pub record RowAt (m k i : ℕ) (B : List (List ℕ)) : Type 0 where

@@ -1,10 +1,9 @@
--- The starting vector: back substitution from the constant 1 gives the first solution, and where the constant's own row does
--- not let it be 1, there is none.
---   start-first, start-none
-use mathlib.Core.Path.{_≡_, refl, sym, ap, _∙_, subst}
+-- The starting vector: back substitution from the constant 1 gives the first solution, `start-first`; where the constant's
+-- own row does not let it be 1, there is none, `start-none`.
+use mathlib.Core.Path.{_≡_, refl, subst}
 use mathlib.Core.Logic.{_⊎_}
 use mathlib.Core.List.{List, [], _∷_, reverseAux}
-use mathlib.Core.Option.{Option, none, some}
+use mathlib.Core.Option.{none, some}
 use Prim.Native.Nat.{ℕ, _+_, _<_}
 use native.Mathlib.Omega.{arith}
 use lib.ListN.{length, drop}
@@ -16,9 +15,9 @@ use Rattle.equations.proofs.Truth.{false-of}
 use Rattle.equations.proofs.Vectors.{vector-length}
 use Rattle.equations.proofs.First.{first-none}
 use Rattle.elimination.specs.Substitution.{extend}
-use Rattle.elimination.specs.Tableau.{turned, tableau, tableauStart}
+use Rattle.elimination.specs.Tableau.{tableau, tableauStart}
 use Rattle.elimination.proofs.Zeros.{Sat, sat-drop}
-use Rattle.elimination.proofs.Closure.{Closure, Good}
+use Rattle.elimination.proofs.Closure.{Closure}
 use Rattle.elimination.proofs.Substitution.{Colex, sat-extend, extend-least}
 use Rattle.elimination.proofs.Turned.{drop-reverse, extend-point, extend-vector, first-colex}
 use Rattle.elimination.proofs.Tableau.{length-tableau, good-tableau, sat-tableau, tableau-solves}
@@ -64,7 +63,8 @@ module _ (m n k : ℕ) (es : List Equation) (pos : 0 < m) (shaped : Shaped n es)
 
   pub start-none : (Sat m (drop n (tableau m n k es)) (1 ∷ []) → ⊥) → startOf m n es ≡ none
   unfolding startOf
-  start-none never = first-none m n (solves m es) (λ w wv. false-of _ (λ t. never (last-row w (vector-length m n w wv) t)))
+  start-none never =
+      first-none m n (solves m es) (λ w wv. false-of _ (λ t. never (last-row w (vector-length m n w wv) t)))
     where
       last-row : (w : List ℕ) → length w ≡ n → T (solves m es w) → Sat m (drop n B) (1 ∷ [])
       last-row w lw t =

@@ -2,7 +2,7 @@
 --   Numbers, step-numbers      what holds of `stepOf m d v`
 --   row-value, line-value      the values of the new row and the new line, from those of the old ones
 use mathlib.Core.Path.{_≡_, refl, sym, ap, _∙_}
-use mathlib.Core.List.{List, [], _∷_}
+use mathlib.Core.List.{List}
 use mathlib.Core.Bool.{Bool, true, false, cond}
 use Prim.Native.Nat.{ℕ, _+_, _*_, _/_, _%_, _<_}
 use native.Mathlib.Nat.{mul-comm, mul-one, zero-mod}
@@ -78,9 +78,12 @@ module _ {m d v : ℕ} {x : Step} (N : Numbers m d v x) (y R L : ℕ) where
       congruent-sym
       (congruent-trans {b = (x .s * N .q + x .t * x .p) * (x .g * y) + (x .s * R + x .t * L)}
       (congruent-of-eq (rw (N .row, N .line) (sorted (x .s) (x .t) (x .g) (N .q) (x .p) y R L)))
-      (congruent-add (congruent-trans (congruent-mul (N .unimodular .one) congruent-refl) (congruent-of-eq (omega arith))) congruent-refl))
+      (congruent-add
+      (congruent-trans (congruent-mul (N .unimodular .one) congruent-refl) (congruent-of-eq (omega arith)))
+      congruent-refl))
     where
-      sorted : (s t g q p y R L : ℕ) → s * (g * q * y + R) + t * (g * p * y + L) ≡ (s * q + t * p) * (g * y) + (s * R + t * L)
+      sorted : (s t g q p y R L : ℕ)
+          → s * (g * q * y + R) + t * (g * p * y + L) ≡ (s * q + t * p) * (g * y) + (s * R + t * L)
       sorted s t g q p y R L = omega arith
 
   line-sum : Congruent m (x .p * R + x .n * L) (x .p * (d * y + R) + x .n * (v * y + L))
@@ -88,15 +91,19 @@ module _ {m d v : ℕ} {x : Step} (N : Numbers m d v x) (y R L : ℕ) where
       congruent-sym
       (congruent-trans {b = (N .q + x .n) * (x .g * x .p * y) + (x .p * R + x .n * L)}
       (congruent-of-eq (rw (N .row, N .line) (sorted (x .n) (x .g) (N .q) (x .p) y R L)))
-      (congruent-trans (congruent-add (congruent-mul (N .unimodular .minus) (congruent-refl {a = x .g * x .p * y})) congruent-refl)
+      (congruent-trans
+      (congruent-add (congruent-mul (N .unimodular .minus) (congruent-refl {a = x .g * x .p * y})) congruent-refl)
       (congruent-of-eq (omega arith))))
     where
       sorted : (n g q p y R L : ℕ) → p * (g * q * y + R) + n * (g * p * y + L) ≡ (q + n) * (g * p * y) + (p * R + n * L)
       sorted n g q p y R L = omega arith
 
 module _ {m d v : ℕ} {x : Step} (N : Numbers m d v x) (y : ℕ) (r W Y : List ℕ) (len : length r ≡ length W) where
-  pub row-value : Congruent m (x .g * y + dot (combine m (x .s) (x .t) r W) Y) (x .s * (d * y + dot r Y) + x .t * (v * y + dot W Y))
-  row-value = congruent-trans (congruent-add congruent-refl (dot-combine m (x .s) (x .t) r W Y len)) (row-sum N y (dot r Y) (dot W Y))
+  pub row-value : Congruent m (x .g * y + dot (combine m (x .s) (x .t) r W) Y)
+      (x .s * (d * y + dot r Y) + x .t * (v * y + dot W Y))
+  row-value =
+      congruent-trans (congruent-add congruent-refl (dot-combine m (x .s) (x .t) r W Y len))
+      (row-sum N y (dot r Y) (dot W Y))
 
   pub line-value : Congruent m (dot (combine m (x .p) (x .n) r W) Y) (x .p * (d * y + dot r Y) + x .n * (v * y + dot W Y))
   line-value = congruent-trans (dot-combine m (x .p) (x .n) r W Y len) (line-sum N y (dot r Y) (dot W Y))

@@ -1,39 +1,40 @@
--- The step at place j, with i columns before it in the tableau, from the row there with pivot d: back substitution from m / d
--- and zeros gives the first vector that leads at j, and there is none where m / d is m.
+-- The step at place j, with i columns before it in the tableau, from the row there with pivot d: back substitution from
+-- m / d and zeros gives the first vector that leads at j, and there is none where m / d is m.
 --   step-solves, step-length     it solves the equations with right sides put to 0, and has n entries
 --   step-point                   its point
 --   step-divides                 what leads at j and solves them has there a multiple of m / d
 --   step-first, step-none        it is the step, or there is none
-use mathlib.Core.Path.{_≡_, refl, sym, ap, _∙_, subst}
+use mathlib.Core.Path.{_≡_, refl, sym, ap, _∙_}
 use mathlib.Core.Logic.{_⊎_, inl, inr}
 use mathlib.Core.List.{List, [], _∷_, reverseAux}
-use mathlib.Core.Option.{Option, none, some}
+use mathlib.Core.Option.{none, some}
 use Prim.Native.Nat.{ℕ, suc, _+_, _*_, _≤_, _<_}
-use native.Mathlib.Nat.{suc-inj, mul-comm, lt-irrefl, lt-of-le-of-lt, eq-or-lt-of-le}
+use native.Mathlib.Nat.{mul-comm, eq-or-lt-of-le}
 use native.Mathlib.Omega.{arith}
-use lib.ListN.{length, take, drop, length-drop, replicate, length-replicate, length-reverseAux}
+use lib.ListN.{length, drop, length-drop, replicate, length-replicate, length-reverseAux}
 use lib.Dec.{T}
 use Rattle.residue.specs.Divides.{Divides}
 use Rattle.residue.proofs.Congruent.{congruent-of, congruent-of-eq, congruent-trans}
 use Rattle.residue.proofs.Divides.{factor-positive, divides-le, divides-of-congruent}
 use Rattle.equations.specs.Vectors.{Vector}
-use Rattle.equations.specs.Equation.{Equation, dot, solves, homogeneous, Shaped}
+use Rattle.equations.specs.Equation.{Equation, solves, homogeneous, Shaped}
 use Rattle.equations.specs.Answer.{leadsAt, isStep, stepAt}
 use Rattle.equations.proofs.Truth.{both-of-and, and-of-both, false-of}
-use Rattle.equations.proofs.Vectors.{Below, vector-length, vector-below}
+use Rattle.equations.proofs.Vectors.{vector-length, vector-below}
 use Rattle.equations.proofs.First.{first-none}
 use Rattle.elimination.specs.Substitution.{extend}
 use Rattle.elimination.specs.Tableau.{turned, tableau, tableauStep}
 use Rattle.elimination.proofs.Modulus.{factor-cancel}
 use Rattle.elimination.proofs.Zeros.{Sat, sat-drop}
-use Rattle.elimination.proofs.Closure.{Closure, Good}
+use Rattle.elimination.proofs.Closure.{Closure}
 use Rattle.elimination.proofs.Substitution.{Colex, length-extend, drop-extend, sat-extend, extend-least}
 use Rattle.elimination.proofs.Turned.{extend-point, extend-vector, length-turned, first-colex}
 use Rattle.elimination.proofs.Tableau.{length-tableau, good-tableau, sat-homogeneous, homogeneous-solves}
 use Rattle.elimination.proofs.Leading.{dot-zeros-right, sat-zeros, drop-zeros, below-take-zeros, Leading, leading-point, leads-turned, colex-drop}
 
 module _ (m n k : ℕ) (es : List Equation) (pos : 0 < m) (shaped : Shaped n es) (i j : ℕ) (places : i + suc j ≡ n)
-    (d e : ℕ) (r : List ℕ) (rest : List (List ℕ)) (here : drop i (tableau m n k es) ≡ (d ∷ r) ∷ rest) (factor : m ≡ d * e) where
+    (d e : ℕ) (r : List ℕ) (rest : List (List ℕ)) (here : drop i (tableau m n k es) ≡ (d ∷ r) ∷ rest)
+    (factor : m ≡ d * e) where
   abbrev B : List (List ℕ)
   B = tableau m n k es
 
@@ -61,7 +62,8 @@ module _ (m n k : ℕ) (es : List Equation) (pos : 0 < m) (shaped : Shaped n es)
   unfolding tableauStep
   is-turned = ap (λ (z : ℕ). turned z Y []) places
 
-  pub step-point : reverseAux (tableauStep m i j (tableau m n k es) e) (0 ∷ []) ≡ extend m i (tableau m n k es) (e ∷ replicate (suc j) 0)
+  pub step-point : reverseAux (tableauStep m i j (tableau m n k es) e) (0 ∷ [])
+      ≡ extend m i (tableau m n k es) (e ∷ replicate (suc j) 0)
   step-point = rw is-turned (extend-point m n i (suc j) 0 B S pos (omega (arith, long)) (sym places) (drop-zeros j))
 
   pub step-length : length (tableauStep m i j (tableau m n k es) e) ≡ n
@@ -72,7 +74,8 @@ module _ (m n k : ℕ) (es : List Equation) (pos : 0 < m) (shaped : Shaped n es)
   vector : e < m → Vector m n v
   vector lt =
       rw is-turned
-      (extend-vector m n i (suc j) 0 B S pos (omega (arith, long)) (sym places) (drop-zeros j) (lt, below-take-zeros m j (suc j) pos))
+      (extend-vector m n i (suc j) 0 B S pos (omega (arith, long)) (sym places) (drop-zeros j)
+      (lt, below-take-zeros m j (suc j) pos))
 
   sat-S : Sat m (drop i B) S
   sat-S =
@@ -98,14 +101,17 @@ module _ (m n k : ℕ) (es : List Equation) (pos : 0 < m) (shaped : Shaped n es)
       → drop i (reverseAux w (0 ∷ [])) ≡ c ∷ replicate (suc j) 0 → Divides e c
   step-divides w c sat point =
       divides-of-congruent
-      (factor-cancel d e c pos factor (congruent-trans (congruent-of-eq (omega (arith, dot-zeros-right r (suc j)))) (at .0)))
+      (factor-cancel d e c pos factor
+      (congruent-trans (congruent-of-eq (omega (arith, dot-zeros-right r (suc j)))) (at .0)))
     where
       at : Sat m ((d ∷ r) ∷ rest) (c ∷ replicate (suc j) 0)
       at = rw (here, point) at (sat-drop m i B (reverseAux w (0 ∷ [])) sat)
 
   module _ (w : List ℕ) (wv : Vector m n w) (t : T (isStep m es j w)) where
     sat-w : Sat m B (reverseAux w (0 ∷ []))
-    sat-w = sat-homogeneous m n k es pos shaped w (vector-length m n w wv) (both-of-and (solves m (homogeneous es) w) (leadsAt j w) t .0)
+    sat-w =
+        sat-homogeneous m n k es pos shaped w (vector-length m n w wv)
+        (both-of-and (solves m (homogeneous es) w) (leadsAt j w) t .0)
 
     lead : Leading m i (suc j) (reverseAux w (0 ∷ []))
     lead =
@@ -133,10 +139,11 @@ module _ (m n k : ℕ) (es : List Equation) (pos : 0 < m) (shaped : Shaped n es)
   pub step-first : e < m → stepAt m n es j ≡ some (tableauStep m i j (tableau m n k es) e)
   unfolding stepAt
   step-first lt =
-      first-colex m n (isStep m es j) v 0 (vector lt) (and-of-both (solves m (homogeneous es) v) (leadsAt j v) step-solves leads) least
+      first-colex m n (isStep m es j) v 0 (vector lt)
+      (and-of-both (solves m (homogeneous es) v) (leadsAt j v) step-solves leads) least
 
   pub step-none : e ≡ m → stepAt m n es j ≡ none
   unfolding stepAt
   step-none q =
       first-none m n (isStep m es j)
-      (λ w wv. false-of _ (λ t. lt-irrefl m (lt-of-le-of-lt (subst (λ (z : ℕ). z ≤ lead w wv t .c) q (step-least w wv t)) (lead w wv t .below))))
+      (λ w wv. false-of _ (λ t. omega (arith, step-least w wv t, lead w wv t .below)))

@@ -1,13 +1,13 @@
--- Back substitution finds, column by column, the least entry that makes the row 0, so the whole is the least in the order in
--- which the last entry counts first.
+-- Back substitution finds, column by column, the least entry that makes the row 0, so the whole is the least in the order
+-- in which the last entry counts first.
 --   place-zero, place-least, place-below   one column: the entry makes the row 0, is the least, and is a residue
 --   length-extend, drop-extend, below-extend   the form of the result
 --   sat-extend              all rows are 0 there, if those behind the first j columns are
 --   Colex, extend-least     it is the least such point
-use mathlib.Core.Path.{_≡_, refl, sym, ap, _∙_}
+use mathlib.Core.Path.{_≡_, sym, _∙_}
 use mathlib.Core.Logic.{_⊎_, inl, inr}
 use mathlib.Core.List.{List, [], _∷_}
-use Prim.Native.Nat.{ℕ, zero, suc, _+_, _*_, _/_, _%_, _≤_, _<_, zero-le, suc-le-suc}
+use Prim.Native.Nat.{ℕ, zero, suc, _+_, _*_, _%_, _≤_, _<_}
 use native.Mathlib.Nat.{mod-lt, mod-eq-of-lt, mod-le, div-le-of-le-mul, div-le-self, eq-or-lt-of-le, mul-comm, lt-of-le-of-lt}
 use native.Mathlib.Omega.{arith}
 use lib.ListN.{length, take, drop}
@@ -19,7 +19,7 @@ use Rattle.equations.proofs.Vectors.{Below}
 use Rattle.elimination.specs.Substitution.{place, fit, extend}
 use Rattle.elimination.proofs.Modulus.{negative-reduced, factor-cancel}
 use Rattle.elimination.proofs.Zeros.{Sat}
-use Rattle.elimination.proofs.Closure.{Closed, Closure}
+use Rattle.elimination.proofs.Closure.{Closure}
 
 -- ---- one column: R is the sum of the terms that are known
 
@@ -32,7 +32,9 @@ module _ (m d e R : ℕ) (pos : 0 < m) (factor : m ≡ d * e) where
   place-zero h =
       let z : Congruent d (negative m R % m) 0 =
       congruent-trans
-      (congruent-trans (congruent-of-eq (omega arith)) (congruent-add (congruent-refl {a = negative m R % m}) (congruent-sym (factor-cancel e d R pos (factor ∙ mul-comm d e) h))))
+      (congruent-trans (congruent-of-eq (omega arith))
+      (congruent-add (congruent-refl {a = negative m R % m})
+      (congruent-sym (factor-cancel e d R pos (factor ∙ mul-comm d e) h))))
       (congruent-down d e factor minus-zero)
       in
       congruent-trans (congruent-add (congruent-of-eq (mul-comm d _ ∙ sym (congruent-zero z))) congruent-refl) minus-zero
@@ -40,7 +42,8 @@ module _ (m d e R : ℕ) (pos : 0 < m) (factor : m ≡ d * e) where
   pub place-least : (x : ℕ) → Congruent m (d * x + R) 0 → place m d R ≤ x
   unfolding place
   place-least x h =
-      let s : Congruent m (negative m R % m) (d * x) = congruent-cancel R (congruent-trans minus-zero (congruent-sym h)) in
+      let z = congruent-trans minus-zero (congruent-sym h) in
+      let s : Congruent m (negative m R % m) (d * x) = congruent-cancel R z in
       let t : negative m R % m ≡ d * x % m = sym (mod-eq-of-lt (mod-lt (negative m R) pos)) ∙ s .same in
       div-le-of-le-mul d (omega (arith, t, mod-le (d * x) m))
 
@@ -59,7 +62,8 @@ length-extend m zero B S h = omega arith
 length-extend m (suc j) [] S h = absurd (omega arith)
 length-extend m (suc j) (r ∷ B) S h = omega (arith, length-extend m j B S (omega arith))
 
-pub drop-extend : (m j c i : ℕ) (B : List (List ℕ)) (S : List ℕ) → j ≤ length B → i ≡ j + c → drop i (extend m j B S) ≡ drop c S
+pub drop-extend : (m j c i : ℕ) (B : List (List ℕ)) (S : List ℕ) → j ≤ length B → i ≡ j + c
+    → drop i (extend m j B S) ≡ drop c S
 drop-extend m zero c i B S h e = let f : i ≡ c = omega arith in rw f
 drop-extend m (suc j) c i [] S h e = absurd (omega arith)
 drop-extend m (suc j) c zero (r ∷ B) S h e = absurd (omega arith)

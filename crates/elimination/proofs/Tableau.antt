@@ -35,7 +35,8 @@ module _ (m n k : ℕ) (es : List Equation) (pos : 0 < m) (shaped : Shaped n es)
   sat-of-holds : (c : ℕ) (x : List ℕ) → length x ≡ n → Holds m c es x → Sat m (tableau m n k es) (reverseAux x (c ∷ []))
   unfolding tableau
   sat-of-holds c x lx h =
-      sat-basis m (n + 1) k pos (lines m k 0 es) _ long (omega (arith, length-reverseAux x (c ∷ []))) (zeros-of-holds m pos n k c x lx 0 es shaped h)
+      sat-basis m (n + 1) k pos (lines m k 0 es) _ long (omega (arith, length-reverseAux x (c ∷ [])))
+      (zeros-of-holds m pos n k c x lx 0 es shaped h)
 
   holds-of-sat : (c : ℕ) (x : List ℕ) → length x ≡ n → Sat m (tableau m n k es) (reverseAux x (c ∷ [])) → Holds m c es x
   unfolding tableau
@@ -49,8 +50,11 @@ module _ (m n k : ℕ) (es : List Equation) (pos : 0 < m) (shaped : Shaped n es)
   pub tableau-solves : (x : List ℕ) → length x ≡ n → Sat m (tableau m n k es) (reverseAux x (1 ∷ [])) → T (solves m es x)
   tableau-solves x lx sat = solves-of-holds m es x (holds-of-sat 1 x lx sat)
 
-  pub sat-homogeneous : (x : List ℕ) → length x ≡ n → T (solves m (homogeneous es) x) → Sat m (tableau m n k es) (reverseAux x (0 ∷ []))
+  pub sat-homogeneous : (x : List ℕ) → length x ≡ n → T (solves m (homogeneous es) x)
+      → Sat m (tableau m n k es) (reverseAux x (0 ∷ []))
   sat-homogeneous x lx t = sat-of-holds 0 x lx (holds-of-homogeneous m es x (holds-of-solves m (homogeneous es) x t))
 
-  pub homogeneous-solves : (x : List ℕ) → length x ≡ n → Sat m (tableau m n k es) (reverseAux x (0 ∷ [])) → T (solves m (homogeneous es) x)
-  homogeneous-solves x lx sat = solves-of-holds m (homogeneous es) x (homogeneous-of-holds m es x (holds-of-sat 0 x lx sat))
+  pub homogeneous-solves : (x : List ℕ) → length x ≡ n → Sat m (tableau m n k es) (reverseAux x (0 ∷ []))
+      → T (solves m (homogeneous es) x)
+  homogeneous-solves x lx sat =
+      solves-of-holds m (homogeneous es) x (homogeneous-of-holds m es x (holds-of-sat 0 x lx sat))

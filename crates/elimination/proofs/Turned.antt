@@ -8,9 +8,9 @@
 use mathlib.Core.Path.{_≡_, refl, sym, ap, _∙_, subst}
 use mathlib.Core.Logic.{_⊎_, inl, inr}
 use mathlib.Core.List.{List, [], _∷_, reverseAux}
-use mathlib.Core.Option.{Option, some}
+use mathlib.Core.Option.{some}
 use mathlib.Core.Bool.{Bool}
-use Prim.Native.Nat.{ℕ, zero, suc, _+_, _*_, _≤_, _<_}
+use Prim.Native.Nat.{ℕ, zero, suc, _+_, _≤_, _<_}
 use native.Mathlib.Nat.{suc-inj}
 use native.Mathlib.Omega.{arith}
 use lib.ListN.{length, take, drop, length-drop}
@@ -87,7 +87,8 @@ colex-reverse [] (y ∷ w) S R h c = absurd (omega arith)
 colex-reverse (x ∷ v) [] S R h c = absurd (omega arith)
 colex-reverse (x ∷ v) (y ∷ w) S R h c = go (colex-reverse v w (x ∷ S) (y ∷ R) (suc-inj h) c)
   where
-    go : Colex (x ∷ S) (y ∷ R) ⊎ ((_≡_ {A = List ℕ} (x ∷ S) (y ∷ R)) × Before v w) → Colex S R ⊎ ((S ≡ R) × Before (x ∷ v) (y ∷ w))
+    go : Colex (x ∷ S) (y ∷ R) ⊎ ((_≡_ {A = List ℕ} (x ∷ S) (y ∷ R)) × Before v w)
+        → Colex S R ⊎ ((S ≡ R) × Before (x ∷ v) (y ∷ w))
     go (inl (inl c)) = inl c
     go (inl (inr p)) = inr (p .0, inl (p .1))
     go (inr p) = let e = p .0 in let a : x ≡ y = cc in let b : S ≡ R = cc in inr (b, inr (a, p .1))
@@ -100,7 +101,8 @@ module _ (m n : ℕ) (p : List ℕ → Bool) (v : List ℕ) (c : ℕ) (vec : Vec
       first-is m n p v vec (true-of _ passes)
       (λ w wv lt. false-of _ (λ t. go w (vector-length m n v vec ∙ sym (vector-length m n w wv)) lt (least w wv t)))
     where
-      not-both : (w : List ℕ) → Before w v → Colex (c ∷ []) (c ∷ []) ⊎ ((_≡_ {A = List ℕ} (c ∷ []) (c ∷ [])) × Before v w) → ⊥
+      not-both : (w : List ℕ) → Before w v
+          → Colex (c ∷ []) (c ∷ []) ⊎ ((_≡_ {A = List ℕ} (c ∷ []) (c ∷ [])) × Before v w) → ⊥
       not-both w lt (inl (inl q)) = q
       not-both w lt (inl (inr q)) = omega arith
       not-both w lt (inr q) = before-asym w v lt (q .1)

@@ -12,13 +12,11 @@ use lib.ListN.{length, drop}
 use Rattle.residue.specs.Congruent.{Congruent}
 use Rattle.residue.proofs.Congruent.{congruent-of-eq, congruent-sym, congruent-trans, congruent-combine}
 use Rattle.residue.proofs.Divides.{factor-positive}
-use Rattle.equations.specs.Vectors.{combine}
 use Rattle.equations.specs.Equation.{dot}
 use Rattle.equations.proofs.Dot.{dot-nil, length-combine}
-use Rattle.elimination.specs.Step.{Step, stepOf}
 use Rattle.elimination.specs.Basis.{insert}
 use Rattle.elimination.proofs.Unimodular.{row-zero, line-zero}
-use Rattle.elimination.proofs.Step.{Numbers, step-numbers, row-value, line-value}
+use Rattle.elimination.proofs.Step.{step-numbers, row-value, line-value}
 
 -- behind its pivot, which is not 0, a row has the columns after its own and k carried ones
 abbrev pub Shape : ℕ → List (List ℕ) → Type 0
@@ -40,12 +38,16 @@ length-insert m ((d ∷ r) ∷ B) [] = refl
 length-insert m ((d ∷ r) ∷ B) (zero ∷ W) = ap suc (length-insert m B W)
 length-insert m ((d ∷ r) ∷ B) (suc v ∷ W) = ap suc (length-insert m B _)
 
-pub shape-insert : (m k : ℕ) (B : List (List ℕ)) (W : List ℕ) → 0 < m → Shape k B → length W ≡ length B + k → Shape k (insert m B W)
+pub shape-insert : (m k : ℕ) (B : List (List ℕ)) (W : List ℕ) → 0 < m → Shape k B → length W ≡ length B + k
+    → Shape k (insert m B W)
 shape-insert m k [] W pos shape len = tt
 shape-insert m k ([] ∷ B) W pos shape len = absurd shape
 shape-insert m k ((d ∷ r) ∷ B) [] pos shape len = shape
-shape-insert m k ((d ∷ r) ∷ B) (zero ∷ W) pos shape len =
-    (shape .0 ∙ ap (λ (z : ℕ). z + k) (sym (length-insert m B W)), shape .1, shape-insert m k B W pos (shape .2) (omega arith))
+shape-insert m k ((d ∷ r) ∷ B) (zero ∷ W) pos shape len = (
+  shape .0 ∙ ap (λ (z : ℕ). z + k) (sym (length-insert m B W)),
+  shape .1,
+  shape-insert m k B W pos (shape .2) (omega arith),
+)
 shape-insert m k ((d ∷ r) ∷ B) (suc v ∷ W) pos shape len =
     let N = step-numbers m d (suc v) pos (shape .1) in
     let e : length r ≡ length W = omega arith in (
@@ -62,8 +64,11 @@ sat-insert m k [] W X pos shape len sat h = tt
 sat-insert m k ([] ∷ B) W X pos shape len sat h = sat
 sat-insert m k ((d ∷ r) ∷ B) [] X pos shape len sat h = sat
 sat-insert m k ((d ∷ r) ∷ B) (zero ∷ W) [] pos shape len sat h = sat
-sat-insert m k ((d ∷ r) ∷ B) (zero ∷ W) (x ∷ X) pos shape len sat h =
-    (sat .0, sat-insert m k B W X pos (shape .2) (omega arith) (sat .1) (congruent-trans (congruent-of-eq (omega arith)) h))
+sat-insert m k ((d ∷ r) ∷ B) (zero ∷ W) (x ∷ X) pos shape len sat h = (
+  sat .0,
+  sat-insert m k B W X pos (shape .2) (omega arith) (sat .1)
+      (congruent-trans (congruent-of-eq (omega arith)) h),
+)
 sat-insert m k ((d ∷ r) ∷ B) (suc v ∷ W) [] pos shape len sat h = sat
 sat-insert m k ((d ∷ r) ∷ B) (suc v ∷ W) (x ∷ X) pos shape len sat h =
     let N = step-numbers m d (suc v) pos (shape .1) in
@@ -73,7 +78,8 @@ sat-insert m k ((d ∷ r) ∷ B) (suc v ∷ W) (x ∷ X) pos shape len sat h =
           (congruent-trans (line-value N x r W X e) (congruent-combine _ _ (sat .0) h)),
     )
 
-pub insert-sat : (m k : ℕ) (B : List (List ℕ)) (W X : List ℕ) → 0 < m → Shape k B → length W ≡ length B + k → length X ≡ length B
+pub insert-sat : (m k : ℕ) (B : List (List ℕ)) (W X : List ℕ) → 0 < m → Shape k B → length W ≡ length B + k
+    → length X ≡ length B
     → Sat m (insert m B W) X → Sat m B X × Congruent m (dot W X) 0
 insert-sat m k [] W [] pos shape len lx sat = (tt, congruent-of-eq (dot-nil W))
 insert-sat m k [] W (x ∷ X) pos shape len lx sat = absurd (omega arith)

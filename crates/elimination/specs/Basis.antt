@@ -5,7 +5,7 @@ use mathlib.Core.List.{List, [], _∷_}
 use Prim.Native.Nat.{ℕ, zero, suc, _+_}
 use lib.ListN.{replicate}
 use Rattle.equations.specs.Vectors.{combine}
-use Rattle.elimination.specs.Step.{Step, stepOf}
+use Rattle.elimination.specs.Step.{stepOf}
 
 -- the basis with the line W put in, column by column
 abbrev pub insert : ℕ → List (List ℕ) → List ℕ → List (List ℕ)

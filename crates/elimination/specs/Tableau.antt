@@ -2,11 +2,11 @@
 -- one is eliminated last; behind them the constant, minus the right side; then k carried columns with a 1 at the equation's
 -- own. The point of a vector is its reverse with 1 behind it, or 0 for right sides put to 0. Definitions only.
 use mathlib.Core.List.{List, [], _∷_, reverseAux}
-use Prim.Native.Nat.{ℕ, zero, suc, _+_, _-_, _%_, _/_}
-use lib.ListN.{replicate, take, drop, getD}
+use Prim.Native.Nat.{ℕ, zero, suc, _+_, _%_}
+use lib.ListN.{replicate}
 use Rattle.residue.specs.Negative.{negative}
 use Rattle.equations.specs.Equation.{Equation}
-use Rattle.elimination.specs.Basis.{basis, pivot}
+use Rattle.elimination.specs.Basis.{basis}
 use Rattle.elimination.specs.Substitution.{extend}
 
 -- k entries, a 1 at i and 0 elsewhere
