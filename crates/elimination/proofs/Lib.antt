@@ -17,3 +17,12 @@ pub mod Steps
 pub mod Answer
 pub mod Carried
 pub mod Multipliers
+pub mod Linear
+pub mod Combination
+pub mod Heads
+pub mod Span
+pub mod SpanHeads
+pub mod Kernel
+pub mod Described
+pub mod Agree
+pub mod Marking

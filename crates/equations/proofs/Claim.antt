@@ -4,13 +4,12 @@
 --   passes-all          a claim passes: of each vector of n residues, it is described if and only if it solves
 use mathlib.Core.Path.{_≡_}
 use mathlib.Core.Logic.{_↔_}
-use mathlib.Core.List.{List, [], _∷_}
+use mathlib.Core.List.{List}
 use mathlib.Core.Bool.{Bool, true, false, Bool·beq}
 use Prim.Native.Nat.{ℕ}
 use lib.ListN.{length}
 use lib.Dec.{T}
-use Rattle.equations.specs.Lists.{every, someone}
-use Rattle.equations.specs.Vectors.{Vector, vectors, sameVector, combination}
+use Rattle.equations.specs.Vectors.{Vector, sameVector, combination}
 use Rattle.equations.specs.Equation.{Equation, solves}
 use Rattle.equations.specs.Claim.{Claim, noSolution, from, describes, passes}
 use Rattle.equations.proofs.Lists.{every-vector, every-of, someone-vector, someone-of, eq-of-same, same-of-eq}

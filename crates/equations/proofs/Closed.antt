@@ -5,13 +5,13 @@
 --   headTest             the test of the step at the first place
 --   HeadStep             that step d ∷ r: d divides m and every head
 --   Head, head-of        there is that step, or every head is 0
-use mathlib.Core.Path.{_≡_, refl, sym, ap, _∙_, subst}
-use mathlib.Core.Logic.{_⊎_, inl, inr}
+use mathlib.Core.Path.{_≡_, refl, ap, _∙_, subst}
+use mathlib.Core.Logic.{inl}
 use mathlib.Core.List.{List, [], _∷_}
 use mathlib.Core.Option.{Option, none, some}
-use mathlib.Core.Bool.{Bool, true, false, _&&_, not}
+use mathlib.Core.Bool.{Bool, false, _&&_, not}
 use Prim.Native.Nat.{ℕ, zero, suc, _+_, _*_, _/_, _%_, _<_}
-use native.Mathlib.Nat.{mod-lt, mod-eq-of-lt, zero-mod, div-add-mod', zero-lt-suc}
+use native.Mathlib.Nat.{mod-lt, zero-mod, div-add-mod', zero-lt-suc}
 use native.Mathlib.Omega.{arith}
 use lib.ListN.{replicate}
 use lib.Dec.{T, eqb, eqb→eq, not-T}

@@ -4,14 +4,15 @@
 --   combine-comm     a sum's two parts may change places
 --   combine-assoc    c + (v + t·w) = (c + v) + t·w
 --   combine-zeros    v + 0 = v
+--   negative-opposite   -t + t ≡ 0
 --   combine-undo     (v + s·w) + t·w = v where s + t ≡ 0
 --   combine-cancel   v is known from v + t·w
 use mathlib.Core.Path.{_≡_, refl, sym, ap, ap₂, _∙_}
 use mathlib.Core.List.{List, [], _∷_}
 use Prim.Native.Nat.{ℕ, zero, suc, _+_, _*_, _%_, _<_}
-use native.Mathlib.Nat.{mod-lt, mod-eq-of-lt, add-comm}
+use native.Mathlib.Nat.{add-comm, mod-lt, mod-eq-of-lt}
 use native.Mathlib.Omega.{arith}
-use lib.ListN.{length, replicate}
+use lib.ListN.{replicate}
 use Rattle.residue.specs.Congruent.{Congruent}
 use Rattle.residue.specs.Negative.{negative}
 use Rattle.residue.proofs.Congruent.{congruent-of-eq, congruent-refl, congruent-sym, congruent-trans, congruent-add, congruent-mul, congruent-mod, congruent-small}
@@ -59,7 +60,10 @@ combine-zeros m (suc n) [] vec = absurd vec
 combine-zeros m (suc n) (x ∷ v) vec =
     ap₂ _∷_ (ap (λ (z : ℕ). z % m) (omega arith) ∙ mod-eq-of-lt (vec .0)) (combine-zeros m n v (vec .1))
 
-module _ (m n s t : ℕ) (pos : 0 < m) (opposite : Congruent m (s + t) 0) where
+pub negative-opposite : (m t : ℕ) → 0 < m → Congruent m (negative m t + t) 0
+negative-opposite m t pos = congruent-trans (congruent-of-eq (add-comm (negative m t) t)) (negative-is m t pos)
+
+module _ (m s t : ℕ) (pos : 0 < m) (opposite : Congruent m (s + t) 0) where
   entry-undo : (x y : ℕ) → x < m → (1 * ((1 * x + s * y) % m) + t * y) % m ≡ x
   entry-undo x y lt =
       congruent-small (mod-lt (1 * ((1 * x + s * y) % m) + t * y) pos) lt
@@ -78,7 +82,7 @@ combine-undo m zero s t pos opposite (x ∷ v) w a b = absurd a
 combine-undo m (suc n) s t pos opposite [] w a b = absurd a
 combine-undo m (suc n) s t pos opposite (x ∷ v) [] a b = absurd b
 combine-undo m (suc n) s t pos opposite (x ∷ v) (y ∷ w) a b =
-    ap₂ _∷_ (entry-undo m n s t pos opposite x y (a .0)) (combine-undo m n s t pos opposite v w (a .1) (b .1))
+    ap₂ _∷_ (entry-undo m s t pos opposite x y (a .0)) (combine-undo m n s t pos opposite v w (a .1) (b .1))
 
 pub combine-cancel : (m n t : ℕ) → 0 < m → (v v′ w : List ℕ) → Vector m n v → Vector m n v′ → Vector m n w
     → combine m 1 t v w ≡ combine m 1 t v′ w → v ≡ v′

@@ -13,4 +13,11 @@ pub mod Steps
 pub mod Ranges
 pub mod Writing
 pub mod Answer
+pub mod Passing
 pub mod Sums
+pub mod Count
+pub mod Number
+pub mod Places
+pub mod Multipliers
+pub mod Special
+pub mod Promises

@@ -13,7 +13,7 @@ use Rattle.equations.specs.Lists.{first, every, someone}
 use Rattle.equations.specs.Vectors.{Vector, vectors, sameVector}
 use Rattle.equations.proofs.Truth.{true-of, of-true, of-false, both-of-and, and-of-both}
 use Rattle.equations.proofs.First.{first-none, first-is}
-use Rattle.equations.proofs.Search.{First, Search, search-vectors, none-means-none}
+use Rattle.equations.proofs.Search.{Search, search-vectors, none-means-none}
 
 -- ---- every one passes, some one passes
 

@@ -2,7 +2,7 @@
 --   leading-head, range-head              the range of a first step d ∷ r is m / d
 --   multiple-below, within-of-multiple    t is within it exactly when t·d is a residue
 --   within-map, within-unmap              a 0 in front of the steps changes no range
---   combination-map                       and stays 0 in a combination
+--   spanned, spanned-map                  combinations of steps alone; a 0 in front of the steps stays 0
 --   take-step                             a member less its multiple of the step has head 0
 use mathlib.Core.Path.{_≡_, refl, ap, _∙_, subst}
 use mathlib.Core.List.{List, [], _∷_, map}
@@ -10,6 +10,7 @@ use mathlib.Core.Bool.{Bool}
 use Prim.Native.Nat.{ℕ, zero, suc, _+_, _*_, _/_, _%_, _<_}
 use native.Mathlib.Nat.{zero-mod, lt-of-mul-lt-mul-left, mul-lt-mul-of-pos-left}
 use native.Mathlib.Omega.{arith}
+use lib.ListN.{replicate}
 use lib.Dec.{T}
 use Rattle.residue.specs.Congruent.{Congruent}
 use Rattle.residue.proofs.Congruent.{congruent-of-eq, congruent-refl, congruent-trans, congruent-mul}
@@ -55,13 +56,17 @@ within-unmap m [] (t ∷ ts) w = w
 within-unmap m (s ∷ ss) [] w = w
 within-unmap m (s ∷ ss) (t ∷ ts) w = (w .0, within-unmap m ss ts (w .1))
 
-pub combination-map : (m : ℕ) (v : List ℕ) (ss : List (List ℕ)) (ts : List ℕ)
-    → combination m (0 ∷ v) (map zeroFirst ss) ts ≡ 0 ∷ combination m v ss ts
-combination-map m v [] ts = refl
-combination-map m v (s ∷ ss) [] = refl
-combination-map m v (s ∷ ss) (t ∷ ts) =
-    ap (λ (z : List ℕ). combine m 1 t z (0 ∷ s)) (combination-map m v ss ts)
-    ∙ ap (λ (z : ℕ). z ∷ combine m 1 t (combination m v ss ts) s) (ap (λ (z : ℕ). z % m) (omega arith) ∙ zero-mod m)
+-- a combination of steps alone, from the zeros
+abbrev pub spanned : ℕ → ℕ → List (List ℕ) → List ℕ → List ℕ
+spanned m n ss ts = combination m (replicate n 0) ss ts
+
+pub spanned-map : (m n : ℕ) (ss : List (List ℕ)) (ts : List ℕ)
+    → spanned m (suc n) (map zeroFirst ss) ts ≡ 0 ∷ spanned m n ss ts
+spanned-map m n [] ts = refl
+spanned-map m n (s ∷ ss) [] = refl
+spanned-map m n (s ∷ ss) (t ∷ ts) =
+    ap (λ (z : List ℕ). combine m 1 t z (0 ∷ s)) (spanned-map m n ss ts)
+    ∙ ap (λ (z : ℕ). z ∷ combine m 1 t (spanned m n ss ts) s) (ap (λ (z : ℕ). z % m) (omega arith) ∙ zero-mod m)
 
 -- a member less its multiple of the step: the head is gone
 pub take-step : (m n : ℕ) (p : List ℕ → Bool) → 0 < m → Closed m (suc n) p → {d : ℕ} {r : List ℕ} (s : HeadStep m n p d r)

@@ -8,14 +8,13 @@
 use mathlib.Core.Path.{_≡_, refl, sym, _∙_, subst}
 use mathlib.Core.Logic.{_⊎_, inl, inr, _↔_}
 use mathlib.Core.List.{List, [], _∷_, List·Memᴰ, List·Memᴰ·head, List·Memᴰ·tail, List·Memᴰ·not-nil, List·Memᴰ·cases-cons}
-use mathlib.Core.Bool.{Bool, _&&_}
-use Prim.Native.Nat.{ℕ, zero, suc, _+_, _*_, _%_, _<_}
+use Prim.Native.Nat.{ℕ, _+_, _*_, _%_, _<_}
 use native.Mathlib.Omega.{arith}
 use lib.ListN.{length, replicate}
-use lib.Dec.{T, eqb, eqb→eq}
+use lib.Dec.{T, eqb→eq}
 use Rattle.residue.specs.Congruent.{Congruent}
 use Rattle.residue.specs.Negative.{negative}
-use Rattle.residue.proofs.Congruent.{congruent-of-eq, congruent-refl, congruent-sym, congruent-trans, congruent-add, congruent-mul, congruent-combine}
+use Rattle.residue.proofs.Congruent.{congruent-of-eq, congruent-refl, congruent-trans, congruent-add, congruent-mul}
 use Rattle.residue.proofs.Negative.{negative-is}
 use Rattle.equations.specs.Vectors.{combine}
 use Rattle.equations.specs.Equation.{Equation, dot, solvesOne, solves, homogeneous}

@@ -3,10 +3,10 @@
 --   step-shift      the step at a later place is a step one place earlier, behind a 0
 --   steps-of-in     01's steps are these, for the solutions with right sides 0
 use mathlib.Core.Path.{_≡_, refl, ap, ap₂, _∙_, sym, subst}
-use mathlib.Core.Logic.{_⊎_, inl, inr}
+use mathlib.Core.Logic.{inl, inr}
 use mathlib.Core.List.{List, [], _∷_, map}
 use mathlib.Core.Option.{Option, none, some, Option·map}
-use mathlib.Core.Bool.{Bool, true, false, _&&_}
+use mathlib.Core.Bool.{Bool, false, _&&_}
 use Prim.Native.Nat.{ℕ, zero, suc, _<_}
 use native.Mathlib.Omega.{arith}
 use lib.Dec.{T, eqb, eqb→eq}
@@ -14,7 +14,7 @@ use Rattle.equations.specs.Lists.{first}
 use Rattle.equations.specs.Vectors.{Vector, Before, vectors}
 use Rattle.equations.specs.Equation.{Equation, solves, homogeneous}
 use Rattle.equations.specs.Answer.{leadsAt, stepAt, andThen, stepsFrom, stepsOf}
-use Rattle.equations.proofs.Truth.{true-of, false-of, of-false, both-of-and, and-of-both}
+use Rattle.equations.proofs.Truth.{false-of, of-false, both-of-and, and-of-both}
 use Rattle.equations.proofs.First.{first-none, first-is}
 use Rattle.equations.proofs.Search.{First, Search, search-vectors}
 use Rattle.equations.proofs.Closed.{headTest}

@@ -45,19 +45,26 @@ sum-suc f x (suc k) = ap (λ (z : ℕ). f (suc x) + z) (sum-suc f (suc x) k)
 rotate-one : (f : ℕ → ℕ) (m : ℕ) → 0 < m → sum (λ y. f ((y + 1) % m)) 0 m ≡ sum f 0 m
 rotate-one f zero pos = absurd (omega arith)
 rotate-one f (suc k) pos =
-    let turned : Congruent (suc k) (k + 1) 0 =
-    congruent-trans {b = 1 * suc k} (congruent-of-eq (omega arith)) (congruent-multiple 1) in
-    let last : f ((k + 1) % suc k) ≡ f 0 = ap f (turned .same ∙ zero-mod (suc k)) in
-    let others : sum (λ y. f ((y + 1) % suc k)) 0 k ≡ sum f 1 k =
-    sum-cong (λ y. f ((y + 1) % suc k)) (λ y. f (suc y)) 0 k
-    (λ y a b. ap f (mod-eq-of-lt (omega arith) ∙ omega arith))
-    ∙ sum-suc f 0 k in
-    omega (arith, sum-append (λ y. f ((y + 1) % suc k)) 0 k 1 (suc k) k (omega arith) (omega arith))
+    omega (arith, last, others, sum-append (λ y. f ((y + 1) % suc k)) 0 k 1 (suc k) k (omega arith) (omega arith))
+  where
+    turned : Congruent (suc k) (k + 1) 0
+    turned = congruent-trans {b = 1 * suc k} (congruent-of-eq (omega arith)) (congruent-multiple 1)
+
+    last : f ((k + 1) % suc k) ≡ f 0
+    last = ap f (turned .same ∙ zero-mod (suc k))
+
+    others : sum (λ y. f ((y + 1) % suc k)) 0 k ≡ sum f 1 k
+    others =
+        sum-cong (λ y. f ((y + 1) % suc k)) (λ y. f (suc y)) 0 k
+        (λ y low high. ap f (mod-eq-of-lt (omega arith) ∙ omega arith))
+        ∙ sum-suc f 0 k
 
 pub sum-rotate : (f : ℕ → ℕ) (m a : ℕ) → 0 < m → sum (λ y. f ((y + a) % m)) 0 m ≡ sum f 0 m
-sum-rotate f m zero pos = sum-cong (λ y. f ((y + 0) % m)) f 0 m (λ y l lt. ap f (ap (λ (z : ℕ). z % m) (omega arith) ∙ mod-eq-of-lt (omega arith)))
+sum-rotate f m zero pos =
+    sum-cong (λ y. f ((y + 0) % m)) f 0 m
+    (λ y low high. ap f (ap (λ (z : ℕ). z % m) (omega arith) ∙ mod-eq-of-lt (omega arith)))
 sum-rotate f m (suc a) pos =
-    sum-cong (λ y. f ((y + suc a) % m)) (λ y. f (((y + 1) % m + a) % m)) 0 m (λ y l lt. ap f (sym (turned y .same)))
+    sum-cong (λ y. f ((y + suc a) % m)) (λ y. f (((y + 1) % m + a) % m)) 0 m (λ y low high. ap f (sym (turned y .same)))
     ∙ rotate-one (λ y. f ((y + a) % m)) m pos
     ∙ sum-rotate f m a pos
   where

@@ -4,6 +4,7 @@
 --   of-true, of-false          and back
 --   true-or-false              one of the two
 --   eqb-of, not-eqb-of         tests of equality
+--   same-of-both               tests that imply each other have one value
 use mathlib.Core.Path.{_≡_, refl, sym, subst}
 use mathlib.Core.Logic.{_⊎_, inl, inr}
 use mathlib.Core.Bool.{Bool, true, false, _&&_}
@@ -41,3 +42,9 @@ eqb-of x y h = subst (λ (z : ℕ). T (eqb x z)) h (eqb-refl x)
 
 pub not-eqb-of : (x y : ℕ) → (x ≡ y → ⊥) → eqb x y ≡ false
 not-eqb-of x y h = false-of (eqb x y) (λ t. h (eqb→eq x y t))
+
+pub same-of-both : (a b : Bool) → (T a → T b) → (T b → T a) → a ≡ b
+same-of-both true true f g = refl
+same-of-both true false f g = absurd (f tt)
+same-of-both false true f g = absurd (g tt)
+same-of-both false false f g = refl

@@ -1,13 +1,14 @@
 -- Vectors of residues and their dictionary order.
 --   Below                          every entry of a list is below m
 --   vector-length, vector-below    a vector has n entries, below m
---   vector-of                      and such a list is one
+--   vector-same-length             two vectors have the same length
+--   vector-of                      such a list is a vector
 --   below-combine                  a combination mod m has entries below m
 --   before-asym, before-irrefl     the order is strict
-use mathlib.Core.Path.{_≡_, refl, sym, ap, subst}
-use mathlib.Core.Logic.{_⊎_, inl, inr}
+use mathlib.Core.Path.{_≡_, refl, sym, ap, _∙_}
+use mathlib.Core.Logic.{inl, inr}
 use mathlib.Core.List.{List, [], _∷_}
-use Prim.Native.Nat.{ℕ, zero, suc, _+_, _*_, _%_, _<_}
+use Prim.Native.Nat.{ℕ, zero, suc, _<_}
 use native.Mathlib.Nat.{suc-inj, mod-lt}
 use native.Mathlib.Omega.{arith}
 use lib.ListN.{length}
@@ -22,6 +23,9 @@ vector-length m zero [] h = refl
 vector-length m zero (x ∷ v) h = absurd h
 vector-length m (suc n) [] h = absurd h
 vector-length m (suc n) (x ∷ v) h = ap suc (vector-length m n v (h .1))
+
+pub vector-same-length : (m n : ℕ) (v w : List ℕ) → Vector m n v → Vector m n w → length v ≡ length w
+vector-same-length m n v w a b = vector-length m n v a ∙ sym (vector-length m n w b)
 
 pub vector-below : (m n : ℕ) (v : List ℕ) → Vector m n v → Below m v
 vector-below m zero [] h = tt

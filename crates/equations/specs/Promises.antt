@@ -3,7 +3,7 @@
 use mathlib.Core.Path.{_≡_}
 use mathlib.Core.Logic.{_↔_}
 use mathlib.Core.List.{List, [], _∷_, _++_, map}
-use mathlib.Core.Option.{Option, none, some}
+use mathlib.Core.Option.{none, some}
 use Prim.Native.Nat.{ℕ, zero, suc, _<_}
 use lib.ListN.{getD, replicate}
 use lib.Dec.{T}
@@ -13,7 +13,7 @@ use Rattle.equations.specs.Vectors.{Vector, vectors, combination}
 use Rattle.equations.specs.Equation.{Equation, solves}
 use Rattle.equations.specs.Answer.{startOf, stepAt, stepsOf, leading, rangeOf, rangeProduct}
 use Rattle.equations.specs.Multipliers.{refutes}
-use Rattle.equations.specs.Claim.{Claim, passes}
+use Rattle.equations.specs.Claim.{Claim, noSolution, from, passes}
 
 -- "its coefficient runs over 0..m/d-1": one coefficient for each step, each within its step's range
 abbrev pub Within : ℕ → List (List ℕ) → List ℕ → Type 0
@@ -39,7 +39,7 @@ Unique =
     → (ts us : List ℕ) → Within m (stepsOf m n es) ts → Within m (stepsOf m n es) us
     → combination m c (stepsOf m n es) ts ≡ combination m c (stepsOf m n es) us → ts ≡ us
 
--- "If d is the step's entry at its place, d divides m"
+-- "If d is the step's entry at its place, d divides m"; and it is the number by which the ranges go
 abbrev pub StepDivides : Type 0
 StepDivides =
     (m n j : ℕ) (es : List Equation) (s : List ℕ) → 0 < m → stepAt m n es j ≡ some s
@@ -51,13 +51,20 @@ Counted =
     (m n : ℕ) (es : List Equation) (c : List ℕ) → 0 < m → startOf m n es ≡ some c
     → count (solves m es) (vectors m n) ≡ rangeProduct m (stepsOf m n es)
 
+-- the answer, handed in as a claim, is marked "pass": the start with all the steps, or no solution where there is no start
+abbrev pub OwnAnswer : Type 0
+OwnAnswer =
+    (m n : ℕ) (es : List Equation) → 0 < m
+    → ((c : List ℕ) → startOf m n es ≡ some c → T (passes m n es (from c (stepsOf m n es))))
+    × (startOf m n es ≡ none → T (passes m n es noSolution))
+
 -- there is no starting vector exactly when "no vector of residues solves all those equations"
 abbrev pub NoStart : Type 0
 NoStart = (m n : ℕ) (es : List Equation) → (startOf m n es ≡ none) ↔ ((v : List ℕ) → Vector m n v → T (solves m es v) → ⊥)
 
 -- multipliers that refute the equations leave no solution
 abbrev pub Refuted : Type 0
-Refuted = (m n : ℕ) (es : List Equation) (ks : List ℕ) → 0 < m → T (refutes m n es ks) → startOf m n es ≡ none
+Refuted = (m n : ℕ) (es : List Equation) (ks : List ℕ) → T (refutes m n es ks) → startOf m n es ≡ none
 
 -- the n unit vectors, by rising place of the 1
 abbrev pub units : ℕ → List (List ℕ)
@@ -69,7 +76,7 @@ units (suc n) = (1 ∷ replicate n 0) ∷ map (λ (v : List ℕ). 0 ∷ v) (unit
 abbrev pub NoEquations : Type 0
 NoEquations = (m n : ℕ) → 1 < m → (startOf m n [] ≡ some (replicate n 0)) × (stepsOf m n [] ≡ units n)
 
--- k coefficients, all of them 0
+-- the equation whose k coefficients are all 0, with right side b
 abbrev pub constant : ℕ → ℕ → Equation
 constant k b = record { coefficients = replicate k 0; right = b }
 

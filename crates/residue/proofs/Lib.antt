@@ -1,5 +1,6 @@
 -- Laws about the definitions in specs/, for every crate above.
--- The kit over any modulus: Congruent, Divides, Negative. Euclid's chain: Induction, Bezout, Columns, Gcd, Lame. Products: Shoup.
+-- The kit over any modulus: Congruent, Divides, Negative. Euclid's chain: Induction, Bezout, Columns, Gcd, Lame.
+-- A product without a division: Shoup. One congruence: First, Solutions. What specs/Promises.antt promises: Promises.
 pub mod Congruent
 pub mod Divides
 pub mod Negative
@@ -8,7 +9,7 @@ pub mod Bezout
 pub mod Columns
 pub mod Gcd
 pub mod Lame
+pub mod Shoup
 pub mod First
 pub mod Solutions
 pub mod Promises
-pub mod Shoup

@@ -25,8 +25,23 @@ pub fn solve(a: u32, b: u32, m: u32) -> Solved
     solutions(a, b, m)
 }
 
+// The answer for every modulus and all numbers. With g the divisor of a and m, s·(a / g) is 1 mod m / g.
+pub fn solutions(a: u32, b: u32, m: u32) -> Solved
+    requires { ⌜ 0 < m ⌝ }
+    ensures { λ r. ⌜ r ≡ solutionsOf a b m ⌝ }
+{
+    let bezout = cofactors(m, a, m);
+    let divisor = bezout.divisor;
+    if b % divisor != 0 {
+        return Solved::NoSolution;
+    }
+    let spacing = m / divisor;
+    let least = mul(bezout.s, b / divisor, spacing);
+    Solved::Solutions(least, spacing)
+}
+
 // The number of the question that turns the congruence away, or 0 where none does.
-pub fn refusal(a: u32, b: u32, m: u32) -> u32
+fn refusal(a: u32, b: u32, m: u32) -> u32
     ensures { λ r. ⌜ r ≡ firstNo (congruenceQuestions a b m) ⌝ }
 {
     if m < 2 {
@@ -42,19 +57,4 @@ pub fn refusal(a: u32, b: u32, m: u32) -> u32
         return 6;
     }
     0
-}
-
-// The answer for every modulus and all numbers. With g the divisor of a and m, s·(a / g) is 1 mod m / g.
-pub fn solutions(a: u32, b: u32, m: u32) -> Solved
-    requires { ⌜ 0 < m ⌝ }
-    ensures { λ r. ⌜ r ≡ solutionsOf a b m ⌝ }
-{
-    let bezout = cofactors(m, a, m);
-    let divisor = bezout.divisor;
-    if b % divisor != 0 {
-        return Solved::NoSolution;
-    }
-    let spacing = m / divisor;
-    let least = mul(bezout.s, b / divisor, spacing);
-    Solved::Solutions(least, spacing)
 }

@@ -10,8 +10,8 @@ pub struct Bezout {
     pub t: u32,
 }
 
-// One pass over the chain, and no remainder by m before its end: the cofactors' sizes stay below a and b, their signs
-// alternate. A column is the size of a cofactor with the one that follows it.
+// One pass over the chain, with no remainder by m before its end: without their signs the cofactors never exceed a and b, and
+// the signs alternate, so that one bit keeps them.
 pub fn cofactors(m: u32, a: u32, b: u32) -> Bezout
     requires { ⌜ 0 < m ⌝ }
     ensures { λ r. ⌜ r ≡ bezoutOf m a b ⌝ }

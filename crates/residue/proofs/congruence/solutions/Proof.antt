@@ -61,7 +61,7 @@ div-mul c =
 mul-requires : tie.Need-mul-requires
 mul-requires c κs =
     let p = c .before .before .args in
-    spacing-positive (p .a) (p .b) (p .m) (c .before .cofactors .result) (omega arith) (c .before .cofactors .ensures .0)
+    omega (arith, spacing-positive (p .a) (p .b) (p .m) (c .before .cofactors .result) (omega arith) (c .before .cofactors .ensures .0))
 
 returns-2 : tie.Need-returns-2
 returns-2 c =

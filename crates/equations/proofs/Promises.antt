@@ -1,0 +1,49 @@
+-- The promises of specs/Promises.antt, kept.
+use mathlib.Core.Path.{fun-ext}
+use mathlib.Core.List.{_∷_, _++_}
+use native.Mathlib.Omega.{arith}
+use Rattle.equations.specs.Promises.{constant, Complete, Unique, StepDivides, Counted, OwnAnswer, NoStart, Refuted, NoEquations, ZeroEquation, ContradictoryEquation}
+use Rattle.equations.proofs.Answer.{answer-complete, answer-unique, start-none}
+use Rattle.equations.proofs.Passing.{answer-passes, none-passes}
+use Rattle.equations.proofs.Number.{count-solutions}
+use Rattle.equations.proofs.Places.{step-entry}
+use Rattle.equations.proofs.Multipliers.{refuted-none}
+use Rattle.equations.proofs.Special.{solves-start, solves-steps, solves-passes, none-start, none-steps, zero-solves, zero-homogeneous, contradiction-none}
+
+pub complete : Complete
+complete = answer-complete
+
+pub unique : Unique
+unique = answer-unique
+
+pub step-divides : StepDivides
+step-divides = step-entry
+
+pub counted : Counted
+counted = count-solutions
+
+pub own-answer : OwnAnswer
+own-answer m n es pos = ((λ c. answer-passes m n es c pos), none-passes m n es)
+
+pub no-start : NoStart
+no-start = start-none
+
+pub refuted : Refuted
+refuted = refuted-none
+
+pub no-equations : NoEquations
+no-equations m n lt = (none-start m n (omega arith), none-steps m n lt)
+
+pub zero-equation : ZeroEquation
+zero-equation m n k es fs =
+    let with-it = es ++ (constant k 0 ∷ fs) in
+    let without = es ++ fs in
+    let same = fun-ext (zero-solves m k es fs) in (
+      zero-solves m k es fs,
+      solves-start m n with-it without same,
+      solves-steps m n with-it without (zero-homogeneous m k es fs),
+      solves-passes m n with-it without same,
+    )
+
+pub contradictory-equation : ContradictoryEquation
+contradictory-equation = contradiction-none
