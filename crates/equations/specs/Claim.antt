@@ -1,6 +1,6 @@
 -- A student's claim, what it describes, and when it passes. Definitions only.
-use mathlib.Core.List.{List, [], _∷_}
-use mathlib.Core.Bool.{Bool, true, false, Bool·beq}
+use mathlib.Core.List.{List}
+use mathlib.Core.Bool.{Bool, false, Bool·beq}
 use Prim.Native.Nat.{ℕ}
 use lib.ListN.{length}
 use Rattle.equations.specs.Lists.{every, someone}

@@ -1,6 +1,6 @@
 -- What must hold of multipliers that refute a list of equations. Which ones are shown "is left free". Definitions only.
 use mathlib.Core.List.{List, [], _∷_, map}
-use mathlib.Core.Bool.{Bool, true, false, _&&_, not}
+use mathlib.Core.Bool.{Bool, true, _&&_, not}
 use Prim.Native.Nat.{ℕ, zero, suc, _%_}
 use lib.ListN.{length, getD}
 use lib.Dec.{eqb, ltb}
