@@ -1,14 +1,14 @@
 -- What cofactors are good for. `cofactors-bezout`: the divisor of a pair divides both, and the cofactors make the
 -- quotients' combination 1 mod m. The induction follows Euclid's chain and keeps the statement for the quotients, since
 -- cofactors of the pair reduced mod m would give it mod m / g only.
-use mathlib.Core.Path.{_≡_, refl, sym, ap, _∙_, subst}
-use Prim.Native.Nat.{ℕ, zero, suc, _+_, _-_, _*_, _/_, _%_, _≤_, _<_, zero-le, suc-le-suc}
-use native.Mathlib.Nat.{div-add-mod', mod-lt, zero-lt-suc, le-refl, sub-add-cancel}
+use mathlib.Core.Path.{_≡_, ap}
+use Prim.Native.Nat.{ℕ, suc, _+_, _-_, _*_, _/_, _%_, _<_}
+use native.Mathlib.Nat.{div-add-mod', mod-lt, zero-lt-suc, sub-add-cancel}
 use native.Mathlib.Omega.{arith}
 use Rattle.residue.specs.Congruent.{Congruent}
 use Rattle.residue.proofs.Induction.{euclid-induction}
 use Rattle.residue.specs.Gcd.{gcd, gcd-zero, gcd-step}
-use Rattle.residue.specs.Bezout.{Cofactors, cofactors, cofactorsLast, cofactorsNext, cofactors-zero, cofactors-step}
+use Rattle.residue.specs.Bezout.{cofactors, cofactors-zero, cofactors-step}
 use Rattle.residue.proofs.Congruent.{congruent-of, congruent-of-eq, congruent-refl, congruent-trans, congruent-add, congruent-mul, congruent-mod}
 
 -- g divides a and b, with quotients q and p, and s·q + t·p ≡ 1

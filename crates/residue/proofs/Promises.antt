@@ -4,13 +4,12 @@ use Prim.Native.Nat.{ℕ, _*_, _/_, _%_, _≤_, _<_}
 use native.Mathlib.Nat.{zero-mod}
 use native.Mathlib.Decide.{decLe}
 use native.Mathlib.Omega.{arith}
-use Rattle.residue.specs.Congruent.{Congruent}
 use Rattle.residue.specs.Divides.{Divides}
 use Rattle.residue.specs.Bezout.{cofactors}
 use Rattle.residue.specs.Gcd.{gcd}
 use Rattle.residue.specs.Congruence.{solutionsOf}
 use Rattle.residue.specs.Promises.{GreatestDivisor, ShortChain, NoneByDivisor, NoneExactly, Describes, LeastAndSpacing}
-use Rattle.residue.specs.declared.congruence.Solved.the-variants.{NoSolution, Solutions}
+use Rattle.residue.specs.declared.congruence.Solved.the-variants.{NoSolution}
 use Rattle.residue.proofs.Divides.{divides-of-congruent, congruent-of-divides}
 use Rattle.residue.proofs.Gcd.{gcd-divides-left, gcd-divides-right, gcd-greatest}
 use Rattle.residue.proofs.Lame.{lame}

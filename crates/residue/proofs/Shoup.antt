@@ -3,7 +3,7 @@
 --   shoup-low, shoup-high   what is left of a·b is not negative, and below 2·m
 --   shoup-quotient          the quotient is the true one or one less
 use Prim.Native.Nat.{ℕ, _+_, _*_, _/_, _≤_, _<_}
-use native.Mathlib.Nat.{div-mul-le-self, lt-mul-div-succ, mul-le-mul-left, mul-le-mul-right, le-of-mul-le-mul-left, lt-of-mul-lt-mul-left, le-div-iff-mul-le, div-lt-iff-lt-mul}
+use native.Mathlib.Nat.{div-mul-le-self, lt-mul-div-succ, mul-le-mul-right, le-of-mul-le-mul-left, lt-of-mul-lt-mul-left, le-div-iff-mul-le, div-lt-iff-lt-mul}
 use native.Mathlib.Omega.{arith}
 
 -- the quotient as it is read off

@@ -5,9 +5,9 @@
 --   least-is                  the least solution is the remainder of s·k by p
 --   describes                 that remainder and p describe the solutions
 --   solutions-are, -none      the answer, where g divides b and where it does not
-use mathlib.Core.Bool.{Bool, true, false}
-use mathlib.Core.Path.{_≡_, refl, sym, ap, _∙_, subst}
-use Prim.Native.Nat.{ℕ, suc, _+_, _*_, _/_, _%_, _≤_, _<_}
+use mathlib.Core.Bool.{false}
+use mathlib.Core.Path.{_≡_, sym, _∙_}
+use Prim.Native.Nat.{ℕ, _+_, _*_, _/_, _%_, _<_}
 use native.Mathlib.Nat.{mul-comm, mod-lt, mod-le, div-add-mod, div-add-mod'}
 use native.Mathlib.Omega.{arith}
 use borrow.Author.Tests.{eq-eqb, ne-eqb}
@@ -16,9 +16,9 @@ use Rattle.residue.specs.Divides.{Divides}
 use Rattle.residue.specs.Bezout.{cofactors}
 use Rattle.residue.specs.Gcd.{gcd}
 use Rattle.residue.specs.Promises.{Describes}
-use Rattle.residue.specs.Congruence.{leastOf, firstFrom, solvesOne, solutionsOf}
+use Rattle.residue.specs.Congruence.{leastOf, solvesOne, solutionsOf}
 use Rattle.residue.specs.declared.congruence.Solved.the-variants.{NoSolution, Solutions}
-use Rattle.residue.proofs.Bezout.{Bezout, cofactors-bezout}
+use Rattle.residue.proofs.Bezout.{cofactors-bezout}
 use Rattle.residue.proofs.Congruent.{congruent-of, congruent-of-eq, congruent-refl, congruent-sym, congruent-trans, congruent-mul, congruent-mod, congruent-scale, congruent-unscale, congruent-down}
 use Rattle.residue.proofs.Divides.{factor-positive, factor-div, divides-le, divides-congruent, divides-mul}
 use Rattle.residue.proofs.First.{first-is}

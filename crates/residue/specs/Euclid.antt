@@ -2,7 +2,7 @@
 -- along it. The counter of `euclidWithin` only shows that the recursion ends: the two laws `euclid-zero` and
 -- `euclid-step` say all of `euclid`, and no counter stands in them.
 use mathlib.Core.Path.{_≡_, refl, ap}
-use Prim.Native.Nat.{ℕ, zero, suc, _+_, _%_, _≤_, _<_}
+use Prim.Native.Nat.{ℕ, zero, suc, _%_, _≤_, _<_}
 use native.Mathlib.Nat.{mod-lt, zero-lt-suc, le-refl, le-of-suc-le-suc}
 use native.Mathlib.Omega.{arith}
 

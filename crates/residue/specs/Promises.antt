@@ -2,7 +2,7 @@
 -- answer to one congruence describes its solutions, for every m ≥ 1. Kept in proofs/Promises.antt.
 use mathlib.Core.Logic.{_↔_}
 use mathlib.Core.Path.{_≡_}
-use Prim.Native.Nat.{ℕ, _+_, _*_, _/_, min, _≤_, _<_}
+use Prim.Native.Nat.{ℕ, _+_, _*_, min, _≤_, _<_}
 use Rattle.residue.specs.Congruent.{Congruent}
 use Rattle.residue.specs.Divides.{Divides}
 use Rattle.residue.specs.Digits.{digits}

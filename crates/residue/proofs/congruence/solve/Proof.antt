@@ -1,5 +1,5 @@
 -- `solve` meets its contract: `refusal` asks the questions, and where none turns the congruence away, m is at least 2.
-use mathlib.Core.Bool.{Bool, true, false, cond, _&&_}
+use mathlib.Core.Bool.{Bool, true, false, cond}
 use mathlib.Core.Path.{_≡_, refl, sym, ap, _∙_}
 use Prim.Native.Nat.{ℕ, _≤_}
 use native.Mathlib.Omega.{arith}
@@ -8,7 +8,6 @@ use lib.Dec.{leb}
 use borrow.Author.Needs.{needs}
 use Rattle.residue.specs.Congruence.{solutionsOf, unlessRefused, congruenceOf}
 use Rattle.residue.specs.Questions.{firstNo, congruenceQuestions}
-use Rattle.residue.specs.declared.congruence.Solved.{Solved}
 use Rattle.residue.specs.declared.congruence.Solved.the-variants.{Refused}
 use Rattle.residue.proofs.congruence.solve.Statement.{statement}
 use Rattle.residue.proofs.congruence.solve.Tie as tie

@@ -1,6 +1,5 @@
 -- `reciprocal` meets its contract: a is below m, so the quotient is below 2^32.
-use mathlib.Core.Path.{ap₂}
-use Prim.Native.Nat.{_*_, _/_}
+use Prim.Native.Nat.{_*_}
 use native.Mathlib.Nat.{div-lt-iff-lt-mul}
 use native.Mathlib.Omega.{arith}
 use borrow.Author.Needs.{needs}
