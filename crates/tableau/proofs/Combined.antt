@@ -14,7 +14,8 @@ use native.Mathlib.Omega.{arith}
 use lib.ListN.{length, take, drop, getD, set, length-set}
 use Rattle.residue.specs.Congruent.{Congruent}
 use Rattle.residue.specs.Negative.{negative}
-use Rattle.residue.proofs.Congruent.{congruent-of-eq, congruent-refl, congruent-sym, congruent-trans, congruent-add, congruent-mul, congruent-mod, congruent-cancel, congruent-of}
+use Rattle.residue.proofs.Congruent.{congruent-of, congruent-of-eq, congruent-refl, congruent-sym, congruent-trans}
+use Rattle.residue.proofs.Congruent.{congruent-add, congruent-mul, congruent-mod, congruent-cancel}
 use Rattle.residue.proofs.Negative.{negative-is}
 use Rattle.equations.specs.Vectors.{combine}
 use Rattle.equations.proofs.Vectors.{Below}
@@ -123,7 +124,8 @@ minus-is m p a b r k h e = sym (mod-eq-of-lt h) ∙ same
         (congruent-trans {b = negative m 1 * b + b}
         (congruent-add (congruent-mul (congruent-mod m (negative m 1)) (congruent-refl {a = b})) congruent-refl)
         (congruent-of-eq (omega arith)))
-        (congruent-trans {b = 0 * b} (congruent-mul (negative-is m 1 (omega arith)) (congruent-refl {a = b})) (congruent-of-eq (omega arith)))
+        (congruent-trans {b = 0 * b} (congruent-mul (negative-is m 1 (omega arith)) (congruent-refl {a = b}))
+        (congruent-of-eq (omega arith)))
 
     sum : Congruent m (r + b) (p * a + negative m 1 % m * b + b)
     sum =

@@ -5,3 +5,7 @@ pub mod Parts
 pub mod Packed
 pub mod Column
 pub mod Walk
+pub mod Sums
+pub mod Extension
+pub mod Lines
+pub mod Built

@@ -59,7 +59,8 @@ clear-next m k zero r x h g e f = absurd (omega arith)
 clear-next m k (suc w) r x h g e f =
     let a : suc w - 1 ≡ w = omega arith in
     let b : suc w + k - 1 ≡ w + k = omega arith in
-    rows-behind (suc w) (suc w + k) r x h g ∙ (rw (e, a, b) (ap (λ (B : List (List ℕ)). (m ∷ replicate (w + k) 0) ∷ B) (rw a at f)))
+    rows-behind (suc w) (suc w + k) r x h g
+    ∙ (rw (e, a, b) (ap (λ (B : List (List ℕ)). (m ∷ replicate (w + k) 0) ∷ B) (rw a at f)))
 
 pub clear-none : (m k w : ℕ) (s : List ℕ) → w ≡ 0 → rows w (w + k) s ≡ empty m k w
 clear-none m k zero s h = refl

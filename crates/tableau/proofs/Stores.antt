@@ -21,7 +21,8 @@ turned-suc (suc i) (y ∷ x) acc h = turned-suc i x (y ∷ acc) (omega arith)
 
 pub fill-end : (i v : ℕ) (d out : List ℕ) → i ≡ length d → out ≡ replicate i v ++ drop i d → out ≡ replicate (length d) v
 fill-end i v d out h f =
-    f ∙ ap (λ (k : ℕ). replicate k v ++ drop k d) h ∙ ap (λ (z : List ℕ). replicate (length d) v ++ z) (drop-length d) ∙ append-nil _
+    f ∙ ap (λ (k : ℕ). replicate k v ++ drop k d) h
+    ∙ ap (λ (z : List ℕ). replicate (length d) v ++ z) (drop-length d) ∙ append-nil _
 
 -- a store right in front of what is filled
 store-front : (k v : ℕ) (d T : List ℕ) → k < length d → set (take (suc k) d ++ T) k v ≡ take k d ++ v ∷ T

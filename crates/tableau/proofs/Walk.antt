@@ -4,6 +4,7 @@
 --   walk-requires             the walk over the rest may be called
 --   walk-same, walk-kept      and its result, put behind the first row, is the insertion
 --   walk-none                 no row at all
+--   walk-line                 the insertion of a line that is known otherwise
 use mathlib.Core.Path.{_≡_, refl, sym, ap, ap₂, _∙_, subst, subst₂}
 use mathlib.Core.List.{List, _∷_, _++_}
 use Prim.Native.Nat.{ℕ, zero, suc, _-_, _≤_, _<_}
@@ -32,19 +33,24 @@ module _ (m w l : ℕ) (b L r L′ : List ℕ) (some : 0 < w) (fits : length b �
   rest-length = lent-length 1 L′ ∙ ap (λ (k : ℕ). k - 1) L′-len
 
   pub walk-requires : (t : ℕ) → w ≡ t → w ≤ l → Kept m (rows w l b)
-      → (w - 1 < t) × (((w - 1 ≤ length (lent 1 L′)) × (length (lent l (r ++ drop l b)) ≡ triangle (w - 1) (length (lent 1 L′)))) × (Kept m (rows (w - 1) (length (lent 1 L′)) (lent l (r ++ drop l b))) × Below m (lent 1 L′)))
+      → (w - 1 < t)
+      × (((w - 1 ≤ length (lent 1 L′)) × (length (lent l (r ++ drop l b)) ≡ triangle (w - 1) (length (lent 1 L′))))
+      × (Kept m (rows (w - 1) (length (lent 1 L′)) (lent l (r ++ drop l b))) × Below m (lent 1 L′)))
   walk-requires t e h k = (
     omega arith,
     (
       (omega (arith, rest-length), behind-length w l b r some fits r-len ∙ ap (triangle (w - 1)) (sym rest-length)),
       (
-        subst₂ (λ (n : ℕ) (s : List ℕ). Kept m (rows (w - 1) n s)) (sym rest-length) (sym behind-is) (kept-behind m w l b some k),
+        subst₂ (λ (n : ℕ) (s : List ℕ). Kept m (rows (w - 1) n s)) (sym rest-length) (sym behind-is)
+            (kept-behind m w l b some k),
         subst (Below m) (sym (lent-is 1 L′)) (below-drop m 1 L′ (column .below)),
       ),
     ),
   )
 
-  pub walk-same : (x : List ℕ) → rows (w - 1) (length (lent 1 L′)) x ≡ insert m (rows (w - 1) (length (lent 1 L′)) (lent l (r ++ drop l b))) (lent 1 L′)
+  pub walk-same : (x : List ℕ)
+      → rows (w - 1) (length (lent 1 L′)) x
+      ≡ insert m (rows (w - 1) (length (lent 1 L′)) (lent l (r ++ drop l b))) (lent 1 L′)
       → rows w l (putBack l (r ++ drop l b) x) ≡ insert m (rows w l b) L
   walk-same x e =
       ap (rows w l) (put-behind l r (drop l b) x r-len) ∙ rows-behind w l r x some r-len
@@ -52,7 +58,8 @@ module _ (m w l : ℕ) (b L r L′ : List ℕ) (some : 0 < w) (fits : length b �
       (ap (λ (n : ℕ). rows (w - 1) n x) (sym rest-length) ∙ e
       ∙ ap₂ (λ (n : ℕ) (s : List ℕ). insert m (rows (w - 1) n s) (lent 1 L′)) rest-length behind-is
       ∙ ap (insert m (rows (w - 1) (l - 1) (drop l b))) (lent-is 1 L′))
-      ∙ sym (column .same (rows (w - 1) (l - 1) (drop l b))) ∙ ap (λ (B : List (List ℕ)). insert m B L) (sym (rows-split w l b some))
+      ∙ sym (column .same (rows (w - 1) (l - 1) (drop l b)))
+      ∙ ap (λ (B : List (List ℕ)). insert m B L) (sym (rows-split w l b some))
 
   pub walk-kept : (x : List ℕ) → Kept m (rows (w - 1) (length (lent 1 L′)) x)
       → Kept m (rows w l (putBack l (r ++ drop l b) x))
@@ -63,3 +70,9 @@ module _ (m w l : ℕ) (b L r L′ : List ℕ) (some : 0 < w) (fits : length b �
 pub walk-none : (m w l : ℕ) (b L : List ℕ) → w ≡ 0 → rows w l b ≡ insert m (rows w l b) L
 walk-none m zero l b L h = refl
 walk-none m (suc w) l b L h = absurd (omega arith)
+
+-- the line X that was lent is L, and known as W
+pub walk-line : (m w l : ℕ) (b x X L W : List ℕ) → length X ≡ l → X ≡ L → L ≡ W
+    → rows w (length X) x ≡ insert m (rows w (length X) b) X → rows w l x ≡ insert m (rows w l b) W
+walk-line m w l b x X L W h e d f =
+    ap (λ (n : ℕ). rows w n x) (sym h) ∙ f ∙ ap₂ (λ (n : ℕ) (v : List ℕ). insert m (rows w n b) v) h (e ∙ d)

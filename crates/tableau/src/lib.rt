@@ -3,3 +3,5 @@ pub mod building;
 pub mod filling;
 pub mod insertion;
 pub mod line;
+pub mod products;
+pub mod substitution;

@@ -1,4 +1,5 @@
--- `filling::turn` meets its contract. The invariant: the last i entries are the first i of x, turned round. The measure is what is left.
+-- `filling::turn` meets its contract. The invariant: the last i entries are the first i of x, turned round. The measure is
+-- what is left.
 use mathlib.Core.Path.{_≡_, refl}
 use mathlib.Core.List.{[], _++_}
 use Prim.Native.Nat.{_-_, _≤_}

@@ -1,4 +1,5 @@
--- `filling::zeros` meets its contract. The invariant: the first i entries are 0, the others as they were. The measure is what is left.
+-- `filling::zeros` meets its contract. The invariant: the first i entries are 0, the others as they were. The measure is
+-- what is left.
 use mathlib.Core.Path.{_≡_, ap, _∙_}
 use mathlib.Core.List.{List, _++_}
 use Prim.Native.Nat.{ℕ, _-_, _≤_}

@@ -101,7 +101,11 @@ combine-both-requires c κs =
     let W = z .args .line .now in (
       omega arith,
       omega arith,
-      omega (arith, below-at (z .args .m) 0 W (z .pre .3) (omega arith), div-le-self (getD W 0 0) (c .before .before .before .cofactors .result .divisor)),
+      omega (
+        arith,
+        below-at (z .args .m) 0 W (z .pre .3) (omega arith),
+        div-le-self (getD W 0 0) (c .before .before .before .cofactors .result .divisor),
+      ),
       omega arith,
       lent-length 1 R ∙ ap (λ (n : ℕ). n - 1) (z .pre .1) ∙ sym (lent-length 1 W),
     )
@@ -134,10 +138,13 @@ returns-2 c =
     let a = z .args in
     let f = c .before .before .before .before .before .before .before .before .cofactors in
     let k = c .before .before .before .before .combine-both in
-    column-reduced (a .m) (f .result .divisor) (f .result .s) (f .result .t) (getD (a .line .now) 0 0 / f .result .divisor) (c .before .before .before .before .before .negate .result)
+    let n = c .before .before .before .before .before .negate in
+    column-reduced (a .m) (f .result .divisor) (f .result .s) (f .result .t) (getD (a .line .now) 0 0 / f .result .divisor)
+    (n .result)
     (a .row .now) (a .line .now) (k .last .0) (k .last .1 .0)
     (z .pre .0) (z .pre .1) (z .pre .2) (z .pre .3) (omega arith) (λ e. omega arith)
-    (reduction (a .m) (getD (a .row .now) 0 0) (getD (a .line .now) 0 0) (f .result) (c .before .before .before .before .before .negate .result) (f .ensures .0) (c .before .before .before .before .before .negate .ensures .0))
+    (reduction (a .m) (getD (a .row .now) 0 0) (getD (a .line .now) 0 0) (f .result) (n .result) (f .ensures .0)
+    (n .ensures .0))
     (k .ensures .0) (k .ensures .1)
 
 returns-3 : tie.Need-returns-3

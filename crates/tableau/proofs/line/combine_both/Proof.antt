@@ -1,5 +1,5 @@
--- `line::combine_both` meets its contract. The invariant: the first i entries of both are combined, the others as they were. The
--- measure is what is left.
+-- `line::combine_both` meets its contract. The invariant: the first i entries of both are combined, the others as they
+-- were. The measure is what is left.
 use Prim.Native.Nat.{_-_}
 use native.Mathlib.Omega.{arith}
 use lib.ListN.{length}

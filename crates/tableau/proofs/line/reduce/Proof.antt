@@ -1,5 +1,5 @@
--- `line::reduce` meets its contract. The invariant: the first i entries are combined, the others as they were. The measure is what
--- is left.
+-- `line::reduce` meets its contract. The invariant: the first i entries are combined, the others as they were. The measure
+-- is what is left.
 use mathlib.Core.Path.{_≡_, refl}
 use Prim.Native.Nat.{_-_, _%_, _≤_}
 use native.Mathlib.Omega.{arith}
@@ -68,8 +68,10 @@ loop-again c =
     (omega arith) (omega arith) (omega arith) (l .inv .2) in (
       omega arith,
       simp length-set (omega arith),
-      combined-next (a .m) (a .p) (negative (a .m) 1 % a .m) (l .i) (c .minus .result) (getD (a .row .now) (l .i) 0) (getD (l .line) (l .i) 0)
-          (a .row .now) (a .line .now) (a .line .now) (l .line) (omega arith) (omega arith) (omega arith) (l .inv .2) refl e (c .minus .ensures .0),
+      combined-next (a .m) (a .p) (negative (a .m) 1 % a .m) (l .i) (c .minus .result)
+          (getD (a .row .now) (l .i) 0) (getD (l .line) (l .i) 0)
+          (a .row .now) (a .line .now) (a .line .now) (l .line)
+          (omega arith) (omega arith) (omega arith) (l .inv .2) refl e (c .minus .ensures .0),
     )
 
 same-length : tie.Need-same-length Inv-loop μ-loop

@@ -1,0 +1,68 @@
+-- A sum of products whose low and high halves, of 32 bits each, are summed apart.
+--   Halves, halves-start, -next, -end   the two sums: of no product, of one more, of all
+--   high-fits                           the sum of the high halves fits 64 bits
+--   join-is                             remainders of the two sums will do
+--   dot-short                           entries past the end of the other list do not count
+use mathlib.Core.Path.{_≡_, refl, sym, ap, ap₂, _∙_}
+use mathlib.Core.List.{List, [], _∷_}
+use Prim.Native.Nat.{ℕ, zero, suc, _+_, _*_, _/_, _%_, _≤_, _<_}
+use native.Mathlib.Nat.{suc-inj, div-add-mod'}
+use native.Mathlib.Numerals.{add-one}
+use native.Mathlib.Omega.{arith}
+use lib.ListN.{length, take, getD}
+use lib.Seq.{take-length}
+use Rattle.residue.proofs.Congruent.{congruent-refl, congruent-add, congruent-mul, congruent-mod}
+use Rattle.equations.specs.Equation.{dot}
+use Rattle.equations.proofs.Dot.{dot-nil}
+
+dot-grow : (i : ℕ) (a b : List ℕ) → length a ≡ length b → i < length a
+    → dot (take (suc i) a) (take (suc i) b) ≡ dot (take i a) (take i b) + getD a i 0 * getD b i 0
+dot-grow i [] b h l = absurd (omega arith)
+dot-grow i (x ∷ a) [] h l = absurd (omega arith)
+dot-grow zero (x ∷ a) (y ∷ b) h l = omega arith
+dot-grow (suc i) (x ∷ a) (y ∷ b) h l = omega (arith, dot-grow i a b (suc-inj h) (omega arith))
+
+-- the two sums make n. It stays shut, so that omega does not meet it where only the sums' sizes matter.
+unfoldable pub Halves : ℕ → ℕ → ℕ → Type 0
+Halves low high n = low + high * 4294967296 ≡ n
+
+pub halves-start : (a b : List ℕ) → Halves 0 0 (dot (take 0 a) (take 0 b))
+unfolding Halves
+halves-start a b = refl
+
+pub halves-next : (i low high p q : ℕ) (a b : List ℕ) → length a ≡ length b → i < length a
+    → Halves low high (dot (take i a) (take i b))
+    → p ≡ getD a i 0 * getD b i 0 % 4294967296 → q ≡ getD a i 0 * getD b i 0 / 4294967296
+    → Halves (low + p) (high + q) (dot (take (i + 1) a) (take (i + 1) b))
+unfolding Halves
+halves-next i low high p q a b h l e f g =
+    omega (arith, e, f, g, div-add-mod' (getD a i 0 * getD b i 0) 4294967296) ∙ sym (dot-grow i a b h l)
+    ∙ ap (λ (k : ℕ). dot (take k a) (take k b)) (sym (add-one i))
+
+pub halves-end : (i low high : ℕ) (a b : List ℕ) → length a ≡ length b → i ≡ length a
+    → Halves low high (dot (take i a) (take i b)) → low + high * 4294967296 ≡ dot a b
+unfolding Halves
+halves-end i low high a b h e f =
+    f ∙ ap₂ dot (ap (λ (k : ℕ). take k a) e ∙ take-length a) (ap (λ (k : ℕ). take k b) (e ∙ h) ∙ take-length b)
+
+high-half : (x : ℕ) → x ≤ 18446744065119617025 → x / 4294967296 ≤ 4294967295
+high-half x h = omega arith
+
+pub high-fits : (i n high x : ℕ) → i < n → n ≤ 65536 → high ≤ i * 4294967295 → x ≤ 18446744065119617025
+    → high + x / 4294967296 < 18446744073709551616
+high-fits i n high x h g e f = sum (x / 4294967296) (high-half x f)
+  where
+    sum : (y : ℕ) → y ≤ 4294967295 → high + y < 18446744073709551616
+    sum y k = omega arith
+
+pub join-is : (m low high l h : ℕ) → l ≡ low % m → h ≡ high % m
+    → (l + h * 4294967296) % m ≡ (low + high * 4294967296) % m
+join-is m low high l h e f =
+    rw (e, f) (congruent-add (congruent-mod m low) (congruent-mul (congruent-mod m high) (congruent-refl {a = 4294967296})) .same)
+
+pub dot-short : (p q : ℕ) (a v : List ℕ) → length v ≤ p → length v ≤ q → dot (take p a) v ≡ dot (take q a) v
+dot-short p q a [] h g = dot-nil (take p a) ∙ sym (dot-nil (take q a))
+dot-short zero q a (x ∷ v) h g = absurd (omega arith)
+dot-short (suc p) zero a (x ∷ v) h g = absurd (omega arith)
+dot-short (suc p) (suc q) [] (x ∷ v) h g = refl
+dot-short (suc p) (suc q) (y ∷ a) (x ∷ v) h g = omega (arith, dot-short p q a v (omega arith) (omega arith))
