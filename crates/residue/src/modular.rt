@@ -68,20 +68,20 @@ pub fn combine_by(s: u32, u: u32, a: u32, t: u32, v: u32, b: u32, m: u32) -> u32
     add(mul_by(s, u, a, m), mul_by(t, v, b, m), m)
 }
 
-fn wide(x: u32) -> u64
+pub fn wide(x: u32) -> u64
     ensures { λ r. ⌜ r ≡ x ⌝ }
 {
     x as u64
 }
 
 // The bound is (2^32 - 1)²: another 32-bit number can be added.
-fn product(a: u32, b: u32) -> u64
+pub fn product(a: u32, b: u32) -> u64
     ensures { λ r. ⌜ (r ≡ a * b) × (r ≤ 18446744065119617025) ⌝ }
 {
     wide(a) * wide(b)
 }
 
-fn reduce(x: u64, m: u32) -> u32
+pub fn reduce(x: u64, m: u32) -> u32
     requires { ⌜ 0 < m ⌝ }
     ensures { λ r. ⌜ (r ≡ x % m) × (r < m) ⌝ }
 {

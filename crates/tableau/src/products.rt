@@ -4,6 +4,9 @@ ghost use mathlib.Core.Path.{_≡_};
 ghost use Prim.Native.Nat.{_+_, _*_, _%_, _<_, _≤_};
 ghost use lib.ListN.{length};
 ghost use Rattle.equations.specs.Equation.{dot};
+use residue::modular::product;
+use residue::modular::reduce;
+use residue::modular::wide;
 
 pub fn sum(a: &[u32], b: &[u32], m: u32) -> u32
     requires { ⌜ (0 < m) × (length (now a) ≡ length (now b)) × (length (now a) ≤ 65536) ⌝ }
@@ -21,37 +24,14 @@ pub fn sum(a: &[u32], b: &[u32], m: u32) -> u32
     join(low, high, m)
 }
 
-fn wide(x: u32) -> u64
-    ensures { λ r. ⌜ r ≡ x ⌝ }
-{
-    x as u64
-}
-
-// The bound is (2^32 - 1)².
-fn product(a: u32, b: u32) -> u64
-    ensures { λ r. ⌜ (r ≡ a * b) × (r ≤ 18446744065119617025) ⌝ }
-{
-    wide(a) * wide(b)
-}
-
-fn remainder(x: u64, m: u32) -> u32
-    requires { ⌜ 0 < m ⌝ }
-    ensures { λ r. ⌜ (r ≡ x % m) × (r < m) ⌝ }
-{
-    (x % wide(m)) as u32
-}
-
 // Small moduli leave no high half, and then one division is enough.
 fn join(low: u64, high: u64, m: u32) -> u32
     requires { ⌜ 0 < m ⌝ }
     ensures { λ r. ⌜ r ≡ (low + high * 4294967296) % m ⌝ }
 {
     if high == 0 {
-        remainder(low, m)
+        reduce(low, m)
     } else {
-        remainder(
-            wide(remainder(low, m)) + wide(remainder(high, m)) * 4294967296,
-            m,
-        )
+        reduce(wide(reduce(low, m)) + wide(reduce(high, m)) * 4294967296, m)
     }
 }

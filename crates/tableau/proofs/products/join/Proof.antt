@@ -7,55 +7,55 @@ use Rattle.tableau.proofs.Sums.{join-is}
 use Rattle.tableau.proofs.products.join.Statement.{statement}
 use Rattle.tableau.proofs.products.join.Tie as tie
 
-remainder-requires : tie.Need-remainder-requires
-remainder-requires c κs = search needs
+reduce-requires : tie.Need-reduce-requires
+reduce-requires c κs = search needs
 
-remainder-requires-2 : tie.Need-remainder-requires-2
-remainder-requires-2 c κs = search needs
+reduce-requires-2 : tie.Need-reduce-requires-2
+reduce-requires-2 c κs = search needs
 
 wide-requires : tie.Need-wide-requires
 wide-requires c κs = search needs
 
-remainder-requires-3 : tie.Need-remainder-requires-3
-remainder-requires-3 c κs = search needs
+reduce-requires-3 : tie.Need-reduce-requires-3
+reduce-requires-3 c κs = search needs
 
 wide-requires-2 : tie.Need-wide-requires-2
 wide-requires-2 c κs = search needs
 
-mul-remainder : tie.Need-mul-remainder
-mul-remainder c = search needs
+mul-reduce : tie.Need-mul-reduce
+mul-reduce c = search needs
 
-add-remainder : tie.Need-add-remainder
-add-remainder c = search needs
+add-reduce : tie.Need-add-reduce
+add-reduce c = search needs
 
-remainder-requires-4 : tie.Need-remainder-requires-4
-remainder-requires-4 c κs = search needs
+reduce-requires-4 : tie.Need-reduce-requires-4
+reduce-requires-4 c κs = search needs
 
 returns : tie.Need-returns
 returns c =
     let a = c .before .before .args in
     let e : a .low + a .high * 4294967296 ≡ a .low = omega arith in
-    rw e (c .remainder .ensures .0)
+    rw e (c .reduce .ensures .0)
 
 returns-2 : tie.Need-returns-2
 returns-2 c =
     let a = c .before .before .before .before .before .before .args in
-    c .remainder4 .ensures .0
+    c .reduce4 .ensures .0
     ∙ join-is (a .m) (a .low) (a .high) (c .before .before .before .wide .result) (c .before .wide2 .result)
-    (c .before .before .before .wide .ensures ∙ c .before .before .before .before .remainder2 .ensures .0)
-    (c .before .wide2 .ensures ∙ c .before .before .remainder3 .ensures .0)
+    (c .before .before .before .wide .ensures ∙ c .before .before .before .before .reduce2 .ensures .0)
+    (c .before .wide2 .ensures ∙ c .before .before .reduce3 .ensures .0)
 
 pub join-spec : {M : Type 1} → statement M
 join-spec =
     tie.close
     (tie.spec
-    remainder-requires
-    remainder-requires-2
+    reduce-requires
+    reduce-requires-2
     wide-requires
-    remainder-requires-3
+    reduce-requires-3
     wide-requires-2
-    mul-remainder
-    add-remainder
-    remainder-requires-4
+    mul-reduce
+    add-reduce
+    reduce-requires-4
     returns
     returns-2)
