@@ -14,10 +14,10 @@ use Rattle.residue.specs.Congruent.{Congruent}
 use Rattle.residue.specs.Negative.{negative}
 use Rattle.residue.proofs.Congruent.{congruent-of-eq, congruent-refl, congruent-trans, congruent-add, congruent-mul, congruent-small}
 use Rattle.residue.proofs.Negative.{negative-is}
-use Rattle.equations.specs.Vectors.{combination}
+use Rattle.equations.specs.Vectors.{combination, Below}
 use Rattle.equations.specs.Equation.{dot}
 use Rattle.equations.proofs.Dot.{dot-nil, length-combine, dot-combine}
-use Rattle.equations.proofs.Vectors.{Below, below-combine}
+use Rattle.equations.proofs.Vectors.{below-combine}
 use Rattle.elimination.proofs.Basis.{Long}
 
 pub plus-minus : (m l a b : ℕ) → 0 < m → Congruent m (a + (l + negative m l) * b) a

@@ -15,7 +15,7 @@ use Rattle.residue.proofs.Congruent.{congruent-of-eq}
 use Rattle.equations.specs.Equation.{dot}
 use Rattle.equations.specs.Answer.{leadsAt}
 use Rattle.equations.proofs.Truth.{both-of-and}
-use Rattle.equations.proofs.Vectors.{Below}
+use Rattle.equations.specs.Vectors.{Below}
 use Rattle.elimination.specs.Tableau.{turned}
 use Rattle.elimination.proofs.Zeros.{Sat}
 use Rattle.elimination.proofs.Substitution.{Colex}

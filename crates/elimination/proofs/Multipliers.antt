@@ -19,7 +19,7 @@ use Rattle.equations.specs.Equation.{Equation, dot, Shaped}
 use Rattle.equations.specs.Answer.{startOf}
 use Rattle.equations.specs.Multipliers.{column, rights, allBelow, zeroColumns, refutes}
 use Rattle.equations.proofs.Truth.{and-of-both, eqb-of}
-use Rattle.equations.proofs.Vectors.{Below}
+use Rattle.equations.specs.Vectors.{Below}
 use Rattle.elimination.specs.Tableau.{unit, tableau}
 use Rattle.elimination.specs.Multipliers.{multipliersOf, multipliers-row}
 use Rattle.elimination.proofs.Modulus.{negative-reduced, factor-or-below}

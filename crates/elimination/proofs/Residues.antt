@@ -5,7 +5,8 @@
 use mathlib.Core.List.{List, [], _∷_}
 use Prim.Native.Nat.{ℕ, zero, suc, _+_, _<_}
 use lib.ListN.{replicate}
-use Rattle.equations.proofs.Vectors.{Below, below-combine}
+use Rattle.equations.specs.Vectors.{Below}
+use Rattle.equations.proofs.Vectors.{below-combine}
 use Rattle.elimination.specs.Basis.{insert, inserts, empty, basis}
 
 abbrev pub TailsBelow : ℕ → List (List ℕ) → Type 0

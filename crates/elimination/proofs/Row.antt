@@ -10,7 +10,7 @@ use native.Mathlib.Omega.{arith}
 use lib.ListN.{length, drop}
 use Rattle.residue.specs.Divides.{Divides}
 use Rattle.residue.proofs.Divides.{factor-positive}
-use Rattle.equations.proofs.Vectors.{Below}
+use Rattle.equations.specs.Vectors.{Below}
 use Rattle.elimination.specs.Basis.{pivot}
 use Rattle.elimination.proofs.Closure.{Good, good-tail}
 use Rattle.elimination.proofs.Residues.{TailsBelow}

@@ -15,7 +15,7 @@ use Rattle.residue.specs.Congruent.{Congruent}
 use Rattle.residue.specs.Negative.{negative}
 use Rattle.residue.proofs.Congruent.{congruent-of-eq, congruent-refl, congruent-sym, congruent-trans, congruent-add, congruent-cancel, congruent-zero, congruent-down}
 use Rattle.equations.specs.Equation.{dot}
-use Rattle.equations.proofs.Vectors.{Below}
+use Rattle.equations.specs.Vectors.{Below}
 use Rattle.elimination.specs.Substitution.{place, fit, extend}
 use Rattle.elimination.proofs.Modulus.{negative-reduced, factor-cancel}
 use Rattle.elimination.proofs.Zeros.{Sat}

@@ -16,10 +16,10 @@ use native.Mathlib.Omega.{arith}
 use lib.ListN.{length, take, drop, length-drop}
 use lib.Dec.{T}
 use Rattle.equations.specs.Lists.{first}
-use Rattle.equations.specs.Vectors.{Vector, Before, vectors}
+use Rattle.equations.specs.Vectors.{Vector, Before, vectors, Below}
 use Rattle.equations.specs.Equation.{dot}
 use Rattle.equations.proofs.Truth.{true-of, false-of}
-use Rattle.equations.proofs.Vectors.{Below, vector-length, vector-of, before-asym, before-irrefl}
+use Rattle.equations.proofs.Vectors.{vector-length, vector-of, before-asym, before-irrefl}
 use Rattle.equations.proofs.First.{first-is}
 use Rattle.elimination.specs.Substitution.{extend}
 use Rattle.elimination.specs.Tableau.{turned}

@@ -19,7 +19,8 @@ use Rattle.equations.specs.Answer.{startOf}
 use Rattle.equations.specs.Multipliers.{column, rights, allBelow, zeroColumns, refutes}
 use Rattle.equations.proofs.Truth.{both-of-and, and-of-both, eqb-of}
 use Rattle.equations.proofs.Dot.{dot-nil}
-use Rattle.equations.proofs.Vectors.{Below, vector-length}
+use Rattle.equations.specs.Vectors.{Below}
+use Rattle.equations.proofs.Vectors.{vector-length}
 use Rattle.equations.proofs.Solving.{solves-cons}
 use Rattle.equations.proofs.Answer.{start-none}
 

@@ -1,5 +1,4 @@
 -- Vectors of residues and their dictionary order.
---   Below                          every entry of a list is below m
 --   vector-length, vector-below    a vector has n entries, below m
 --   vector-same-length             two vectors have the same length
 --   vector-of                      such a list is a vector
@@ -12,11 +11,7 @@ use Prim.Native.Nat.{ℕ, zero, suc, _<_}
 use native.Mathlib.Nat.{suc-inj, mod-lt}
 use native.Mathlib.Omega.{arith}
 use lib.ListN.{length}
-use Rattle.equations.specs.Vectors.{Vector, Before, combine}
-
-abbrev pub Below : ℕ → List ℕ → Type 0
-Below m [] = Unit {0}
-Below m (x ∷ v) = (x < m) × Below m v
+use Rattle.equations.specs.Vectors.{Vector, Below, Before, combine}
 
 pub vector-length : (m n : ℕ) (v : List ℕ) → Vector m n v → length v ≡ n
 vector-length m zero [] h = refl

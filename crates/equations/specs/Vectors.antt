@@ -13,6 +13,11 @@ Vector m zero (x ∷ v) = ⊥
 Vector m (suc n) [] = ⊥
 Vector m (suc n) (x ∷ v) = (x < m) × Vector m n v
 
+-- a list of residues, however long: each entry is below m
+abbrev pub Below : ℕ → List ℕ → Type 0
+Below m [] = Unit {0}
+Below m (x ∷ v) = (x < m) × Below m v
+
 -- v comes before w: "at the first entry where two differ, the smaller comes first"
 abbrev pub Before : List ℕ → List ℕ → Type 0
 Before [] w = ⊥

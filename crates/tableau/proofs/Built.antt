@@ -9,12 +9,12 @@ use native.Mathlib.Nat.{le-refl}
 use native.Mathlib.Omega.{arith}
 use lib.ListN.{length, take, drop}
 use Rattle.equations.specs.Equation.{Equation}
-use Rattle.equations.proofs.Vectors.{Below}
+use Rattle.equations.specs.Vectors.{Below}
 use Rattle.elimination.specs.Basis.{insert, inserts, empty, basis}
 use Rattle.elimination.specs.Tableau.{unit, line, lines, tableau}
 use Rattle.elimination.proofs.Residues.{below-zeros}
 use Rattle.tableau.specs.Packed.{rows, triangle, Kept}
-use Rattle.tableau.specs.Lines.{equationAt, equationsOf}
+use Rattle.equations.specs.Lines.{equationAt, equationsOf}
 use Rattle.tableau.proofs.Parts.{lent, lent-is, lent-length}
 use Rattle.tableau.proofs.Combined.{below-drop}
 use Rattle.tableau.proofs.Lines.{equation-front, equations-none, equations-more}

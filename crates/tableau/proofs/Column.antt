@@ -18,8 +18,8 @@ use Rattle.residue.specs.Cofactors.{bezoutOf}
 use Rattle.residue.specs.declared.extended.Bezout.{Bezout}
 use Rattle.residue.proofs.Divides.{divides-le}
 use Rattle.residue.proofs.Gcd.{gcd-positive, gcd-divides-left}
-use Rattle.equations.specs.Vectors.{combine}
-use Rattle.equations.proofs.Vectors.{Below, below-combine}
+use Rattle.equations.specs.Vectors.{combine, Below}
+use Rattle.equations.proofs.Vectors.{below-combine}
 use Rattle.elimination.specs.Step.{stepOf}
 use Rattle.elimination.specs.Basis.{insert}
 use Rattle.tableau.specs.Packed.{RowKept}

@@ -17,8 +17,7 @@ use Rattle.residue.specs.Negative.{negative}
 use Rattle.residue.proofs.Congruent.{congruent-of, congruent-of-eq, congruent-refl, congruent-sym, congruent-trans}
 use Rattle.residue.proofs.Congruent.{congruent-add, congruent-mul, congruent-mod, congruent-cancel}
 use Rattle.residue.proofs.Negative.{negative-is}
-use Rattle.equations.specs.Vectors.{combine}
-use Rattle.equations.proofs.Vectors.{Below}
+use Rattle.equations.specs.Vectors.{combine, Below}
 
 abbrev pub Combined : ℕ → ℕ → ℕ → List ℕ → List ℕ → List ℕ → ℕ → List ℕ → Type 0
 Combined m s t a b o i x = x ≡ combine m s t (take i a) (take i b) ++ drop i o

@@ -16,7 +16,7 @@ use lib.ListN.{length, take, drop, getD, set, length-drop}
 use lib.Seq.{length-take-le, getD-take, drop-drop}
 use Rattle.residue.specs.Negative.{negative}
 use Rattle.equations.specs.Equation.{dot}
-use Rattle.equations.proofs.Vectors.{Below}
+use Rattle.equations.specs.Vectors.{Below}
 use Rattle.elimination.specs.Substitution.{place, fit, extend}
 use Rattle.tableau.specs.Packed.{rows, triangle, Kept}
 use Rattle.tableau.proofs.Parts.{lent, putBack, lent-is, lent-length, put-back-is}

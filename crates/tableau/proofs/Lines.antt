@@ -14,11 +14,11 @@ use lib.ListN.{length, take, drop, getD, set, length-append, length-drop, length
 use lib.Seq.{take-at, take-take, getD-take, drop-cons, set-at, append-snoc}
 use Rattle.residue.specs.Negative.{negative}
 use Rattle.equations.specs.Equation.{Equation}
-use Rattle.equations.proofs.Vectors.{Below}
+use Rattle.equations.specs.Vectors.{Below}
 use Rattle.elimination.specs.Tableau.{line, unit, turned}
 use Rattle.elimination.proofs.Residues.{below-zeros}
 use Rattle.elimination.proofs.Turned.{below-turned}
-use Rattle.tableau.specs.Lines.{equationAt, equationsWithin, equationsOf}
+use Rattle.equations.specs.Lines.{equationAt, equationsWithin, equationsOf}
 use Rattle.tableau.proofs.Parts.{lent, putBack, lent-length, put-back-is}
 
 pub below-take : (m i : ℕ) (v : List ℕ) → Below m v → Below m (take i v)

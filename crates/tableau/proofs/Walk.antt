@@ -10,7 +10,7 @@ use mathlib.Core.List.{List, _∷_, _++_}
 use Prim.Native.Nat.{ℕ, zero, suc, _-_, _≤_, _<_}
 use native.Mathlib.Omega.{arith}
 use lib.ListN.{length, take, drop}
-use Rattle.equations.proofs.Vectors.{Below}
+use Rattle.equations.specs.Vectors.{Below}
 use Rattle.elimination.specs.Basis.{insert}
 use Rattle.tableau.specs.Packed.{rows, triangle, RowKept, Kept}
 use Rattle.tableau.specs.Column.{Inserted}

@@ -1,5 +1,4 @@
--- What the contracts of this crate cite besides the model in `elimination`: how rows and equations lie in a list of numbers.
--- Read in this order: Packed, Column, Lines.
+-- What the contracts of this crate cite besides the model in `elimination`: how rows lie in a list of numbers.
+-- Read in this order: Packed, Column.
 pub mod Packed
 pub mod Column
-pub mod Lines

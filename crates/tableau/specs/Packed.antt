@@ -3,7 +3,7 @@
 use mathlib.Core.List.{List, [], _∷_}
 use Prim.Native.Nat.{ℕ, zero, suc, pred, _+_, _<_, _≤_}
 use lib.ListN.{take, drop}
-use Rattle.equations.proofs.Vectors.{Below}
+use Rattle.equations.specs.Vectors.{Below}
 
 -- w rows, the first of l numbers
 abbrev pub rows : ℕ → ℕ → List ℕ → List (List ℕ)

@@ -2,7 +2,7 @@
 ghost use mathlib.Core.Path.{_≡_};
 ghost use Prim.Native.Nat.{_<_, _≤_};
 ghost use lib.ListN.{length};
-ghost use Rattle.equations.proofs.Vectors.{Below};
+ghost use Rattle.equations.specs.Vectors.{Below};
 ghost use Rattle.elimination.specs.Basis.{insert};
 ghost use Rattle.tableau.specs.Packed.{rows, triangle, Kept, RowKept};
 ghost use Rattle.tableau.specs.Column.{Inserted};

@@ -2,7 +2,7 @@
 ghost use mathlib.Core.Path.{_≡_};
 ghost use Prim.Native.Nat.{_+_, _≤_};
 ghost use lib.ListN.{length, drop};
-ghost use Rattle.equations.proofs.Vectors.{Below};
+ghost use Rattle.equations.specs.Vectors.{Below};
 ghost use Rattle.elimination.specs.Substitution.{extend};
 ghost use Rattle.tableau.specs.Packed.{rows, triangle, Kept};
 use crate::products::sum;

@@ -6,9 +6,9 @@ use native.Mathlib.Omega.{arith}
 use lib.ListN.{length, take, drop, replicate}
 use lib.Seq.{take-at, length-take-le}
 use borrow.Author.Needs.{needs}
-use Rattle.equations.proofs.Vectors.{Below}
+use Rattle.equations.specs.Vectors.{Below}
 use Rattle.elimination.specs.Tableau.{line, unit}
-use Rattle.tableau.specs.Lines.{equationAt}
+use Rattle.equations.specs.Lines.{equationAt}
 use Rattle.tableau.proofs.Packed.{joined-fit}
 use Rattle.tableau.proofs.Walk.{walk-line}
 use Rattle.tableau.proofs.building.insert_equation.Statement.{statement}

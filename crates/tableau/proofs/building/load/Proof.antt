@@ -5,7 +5,7 @@ use Prim.Native.Nat.{ℕ}
 use native.Mathlib.Omega.{arith}
 use lib.Seq.{length-take-le}
 use borrow.Author.Needs.{needs}
-use Rattle.equations.proofs.Vectors.{Below}
+use Rattle.equations.specs.Vectors.{Below}
 use Rattle.elimination.specs.Tableau.{turned}
 use Rattle.tableau.proofs.Lines.{load-length, load-is, load-below}
 use Rattle.tableau.proofs.building.load.Statement.{statement}
