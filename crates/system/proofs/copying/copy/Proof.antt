@@ -1,0 +1,84 @@
+-- `copying::copy` meets its contract. The invariant: the first i numbers are copied, those behind them as they were. The measure
+-- is what is left.
+use mathlib.Core.Path.{_≡_, refl, sym, ap, _∙_}
+use mathlib.Core.List.{List, _++_}
+use Prim.Native.Nat.{ℕ, suc, _+_, _-_, _<_, _≤_}
+use native.Mathlib.Numerals.{add-one}
+use native.Mathlib.Omega.{arith}
+use lib.ListN.{length, take, drop, getD, set, length-set}
+use lib.Seq.{take-length, take-suc, drop-cons, set-at, append-snoc, length-take-le}
+use borrow.Author.Needs.{needs}
+use Rattle.system.proofs.copying.copy.Statement.{statement}
+use Rattle.system.proofs.copying.copy.Tie as tie
+
+abbrev Inv-loop : tie.InvT-loop
+Inv-loop from to₀ i₀ to i = (i ≤ length from) × (length to ≡ length to₀) × (to ≡ take i from ++ drop i to₀)
+
+abbrev μ-loop : tie.MeasureT-loop
+μ-loop from to₀ i₀ to i = length from - i
+
+copy-more : (i : ℕ) (from d : List ℕ) → i < length from → i < length d
+    → set (take i from ++ drop i d) i (getD from i 0) ≡ take (i + 1) from ++ drop (i + 1) d
+copy-more i from d h g =
+    rw (add-one, drop-cons d i 0, take-suc from i 0)
+    (set-at (take i from) (getD d i 0) (drop (suc i) d) (getD from i 0) i (length-take-le i from (omega arith))
+    ∙ sym (append-snoc (take i from) (getD from i 0) (drop (suc i) d)))
+
+loop-holds : tie.Need-loop-holds Inv-loop μ-loop
+loop-holds c = (search needs, search needs, refl)
+
+mul-to : tie.Need-mul-to Inv-loop μ-loop
+mul-to c = search needs
+
+shared-slice-read-to : tie.Need-shared-slice-read-to Inv-loop μ-loop
+shared-slice-read-to c = search needs
+
+mul-to-2 : tie.Need-mul-to-2 Inv-loop μ-loop
+mul-to-2 c = search needs
+
+slice-write-to : tie.Need-slice-write-to Inv-loop μ-loop
+slice-write-to c = search needs
+
+add-i : tie.Need-add-i Inv-loop μ-loop
+add-i c = search needs
+
+loop-less : tie.Need-loop-less Inv-loop μ-loop
+loop-less c = search needs
+
+loop-again : tie.Need-loop-again Inv-loop μ-loop
+loop-again c =
+    let l = c .before .before .loop in
+    let a = c .before .before .before .args in (
+      omega arith,
+      simp length-set (omega arith),
+      ap (λ (z : List ℕ). set z (l .i) (getD (a .from .now) (l .i) 0)) (l .inv .2)
+          ∙ copy-more (l .i) (a .from .now) (a .to .now) (omega arith) (omega arith),
+    )
+
+same-length : tie.Need-same-length Inv-loop μ-loop
+same-length c = search needs
+
+returns : tie.Need-returns Inv-loop μ-loop
+returns c =
+    let l = c .before .loop in
+    let a = c .before .before .args in
+    let e : l .i ≡ length (a .from .now) = omega arith in
+    l .inv .2 ∙ ap (λ (k : ℕ). take k (a .from .now) ++ drop k (a .to .now)) e
+    ∙ ap (λ (z : List ℕ). z ++ drop (length (a .from .now)) (a .to .now)) (take-length (a .from .now))
+
+pub copy-spec : {M : Type 1} → statement M
+copy-spec =
+    tie.close
+    (tie.spec
+    Inv-loop
+    μ-loop
+    loop-holds
+    mul-to
+    shared-slice-read-to
+    mul-to-2
+    slice-write-to
+    add-i
+    loop-less
+    loop-again
+    same-length
+    returns)

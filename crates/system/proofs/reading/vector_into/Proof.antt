@@ -1,0 +1,113 @@
+-- `reading::vector_into` meets its contract: from zeros with e in column i, back substitution and then the vector turned round.
+use mathlib.Core.Path.{_≡_, sym, ap, _∙_}
+use mathlib.Core.List.{List, [], _++_}
+use Prim.Native.Nat.{ℕ, _+_, _≤_}
+use native.Mathlib.Omega.{arith}
+use lib.ListN.{length, take, drop, length-append}
+use lib.Seq.{take-at}
+use borrow.Author.Needs.{needs}
+use Rattle.elimination.specs.Tableau.{turned}
+use Rattle.tableau.specs.Packed.{rows, triangle, Kept}
+use Rattle.system.specs.Reading.{Readable}
+use Rattle.system.proofs.Rows.{triangle-mono}
+use Rattle.system.proofs.Seed.{seed, length-seed, seed-front, seed-below, seed-vector, kept-front}
+use Rattle.system.proofs.reading.vector_into.Statement.{statement}
+use Rattle.system.proofs.reading.vector_into.Tie as tie
+
+-- the rows that back substitution looks at, for a vector of k words
+rows-lent : (m n i k : ℕ) (s : List ℕ) → Readable m n s → i ≤ n → k ≡ n + 1
+    → (triangle i (k + 0) ≤ length s) × Kept m (rows i (k + 0) s)
+rows-lent m n i k s r h e =
+    let f : k + 0 ≡ n + 1 = omega arith in
+    rw f (omega (arith, triangle-mono i (n + 1) (n + 1) (n + 1) (omega arith) (omega arith), r .size), kept-front m i (n + 1) (n + 1) s (omega arith) (r .kept))
+
+-- what comes back is as long as what was lent
+whole : (n i e : ℕ) (x : List ℕ) → n ≤ 16 → length x ≡ length (take (n + 1) (seed i e)) → length x ≡ n + 1
+whole n i e x h f = f ∙ seed-front (n + 1) i e (omega arith)
+
+mul-x : tie.Need-mul-x
+mul-x c = search needs
+
+array-write-x : tie.Need-array-write-x
+array-write-x c = search needs
+
+add-w : tie.Need-add-w
+add-w c = search needs
+
+array-borrow-prefix-x : tie.Need-array-borrow-prefix-x
+array-borrow-prefix-x c =
+    let z = c .before .before in
+    omega (arith, length-seed (z .args .i) (z .args .e), z .pre .0 .unknowns)
+
+slice-aggregate-extend : tie.Need-slice-aggregate-extend
+slice-aggregate-extend c =
+    let z = c .before .before .before in
+    sym (seed-front (z .args .n + 1) (z .args .i) (z .args .e) (omega (arith, z .pre .0 .unknowns)))
+
+extend-requires : tie.Need-extend-requires
+extend-requires c κs =
+    let z = c .before .before .before in
+    let a = z .args in
+    let n = z .pre .0 .unknowns in
+    let r = rows-lent (a .m) (a .n) (a .i) (length (take (a .n + 1) (seed (a .i) (a .e)))) (a .basis .now) (z .pre .0) (z .pre .2)
+    (seed-front (a .n + 1) (a .i) (a .e) (omega arith)) in (
+      (omega (arith, seed-front (a .n + 1) (a .i) (a .e) (omega arith)), omega (arith, seed-front (a .n + 1) (a .i) (a .e) (omega arith)), r .0),
+      (r .1, seed-below (a .m) (a .n) (a .i) (a .e) (z .pre .2) n (z .pre .3)),
+    )
+
+array-share-prefix-x : tie.Need-array-share-prefix-x
+array-share-prefix-x c =
+    let z = c .before .before .before .before .before in
+    let a = z .args in
+    let x = c .before .extend in
+    omega (
+      arith,
+      length-append (x .last .1 .0) (drop (a .n + 1) (seed (a .i) (a .e))),
+      x .kept .1 .0,
+      seed-front (a .n + 1) (a .i) (a .e) (omega (arith, z .pre .0 .unknowns)),
+    )
+
+slice-aggregate-turn : tie.Need-slice-aggregate-turn
+slice-aggregate-turn c =
+    let z = c .before .before .before .before .before .before in
+    let a = z .args in
+    let x = c .before .before .extend in
+    let e = whole (a .n) (a .i) (a .e) (x .last .1 .0) (z .pre .0 .unknowns) (x .kept .1 .0) in
+    sym (ap length (take-at (x .last .1 .0) (drop (a .n + 1) (seed (a .i) (a .e))) (a .n + 1) e) ∙ e)
+
+turn-requires : tie.Need-turn-requires
+turn-requires c κs =
+    let z = c .before .before .before .before .before .before .before in
+    let a = z .args in
+    let x = c .before .before .before .extend in
+    let e = whole (a .n) (a .i) (a .e) (x .last .1 .0) (z .pre .0 .unknowns) (x .kept .1 .0) in
+    omega (arith, z .pre .1, e, ap length (take-at (x .last .1 .0) (drop (a .n + 1) (seed (a .i) (a .e))) (a .n + 1) e))
+
+same-length : tie.Need-same-length
+same-length c = search needs
+
+returns : tie.Need-returns
+returns c =
+    let z = c .before .before .before .before .before .before .before .before .before .before in
+    let a = z .args in
+    let x = c .before .before .before .before .before .before .extend in
+    c .before .before .turn .ensures
+    ∙ ap (λ (k : ℕ). turned k (take (a .n + 1) (x .last .1 .0 ++ drop (a .n + 1) (seed (a .i) (a .e)))) []) (z .pre .1)
+    ∙ seed-vector (a .m) (a .n) (a .i) (a .e) (a .basis .now) (x .last .1 .0) (drop (a .n + 1) (seed (a .i) (a .e))) (z .pre .2)
+    (z .pre .0 .unknowns) (whole (a .n) (a .i) (a .e) (x .last .1 .0) (z .pre .0 .unknowns) (x .kept .1 .0)) (x .ensures .0)
+
+pub vector-into-spec : {M : Type 1} → statement M
+vector-into-spec =
+    tie.close
+    (tie.spec
+    mul-x
+    array-write-x
+    add-w
+    array-borrow-prefix-x
+    slice-aggregate-extend
+    extend-requires
+    array-share-prefix-x
+    slice-aggregate-turn
+    turn-requires
+    same-length
+    returns)

@@ -1,0 +1,84 @@
+-- `reading::vectors_into` meets its contract: the starting vector stands in front of the steps.
+use mathlib.Core.Path.{_≡_, sym, _∙_}
+use mathlib.Core.List.{List, _++_}
+use Prim.Native.Nat.{ℕ, _+_}
+use native.Mathlib.Omega.{arith}
+use lib.ListN.{length, drop}
+use lib.Seq.{length-take-le}
+use Rattle.tableau.specs.Packed.{rows}
+use Rattle.tableau.proofs.Parts.{putBack, put-behind}
+use Rattle.system.specs.Reading.{Laid, readVector, readSteps, readVectors}
+use Rattle.system.proofs.Laid.{laid-cons}
+use borrow.Author.Needs.{needs}
+use Rattle.system.proofs.reading.vectors_into.Statement.{statement}
+use Rattle.system.proofs.reading.vectors_into.Tie as tie
+
+-- the steps p put behind the starting vector v
+start-then-steps : (m n r : ℕ) (B : List (List ℕ)) (v d p : List ℕ) → length v ≡ n → v ≡ readVector m n B n 1
+    → Laid n (readSteps m n B n) p r
+    → Laid n (readVectors m n B) (putBack n (v ++ d) p) (r + 1)
+unfolding readVectors
+start-then-steps m n r B v d p h e w = rw (put-behind n v d p h, ← e) (laid-cons n r v p (readSteps m n B n) h w)
+
+slice-relend-prefix-vector-into : tie.Need-slice-relend-prefix-vector-into
+slice-relend-prefix-vector-into c = search needs
+
+slice-aggregate-vector-into : tie.Need-slice-aggregate-vector-into
+slice-aggregate-vector-into c =
+    let a = c .before .before .before .args in
+    sym (length-take-le (a .n) (a .out .now) (omega arith))
+
+vector-into-requires : tie.Need-vector-into-requires
+vector-into-requires c κs =
+    let z = c .before .before .before in
+    let a = z .args in
+    (z .pre .0, length-take-le (a .n) (a .out .now) (omega arith), omega arith, z .pre .0 .modulus)
+
+mul-steps-into : tie.Need-mul-steps-into
+mul-steps-into c = search needs
+
+sub-steps-into : tie.Need-sub-steps-into
+sub-steps-into c = search needs
+
+part-steps-into-start : tie.Need-part-steps-into-start
+part-steps-into-start c = search needs
+
+part-steps-into-end : tie.Need-part-steps-into-end
+part-steps-into-end c = search needs
+
+steps-into-requires : tie.Need-steps-into-requires
+steps-into-requires c κs = search needs
+
+add-result : tie.Need-add-result
+add-result c = search needs
+
+same-length : tie.Need-same-length
+same-length c = search needs
+
+returns : tie.Need-returns
+returns c =
+    let z = c .before .before .before .before .before .before .before .before .before .before in
+    let a = z .args in
+    let v = c .before .before .before .before .before .before .vector-into in
+    let s = c .before .before .steps-into in
+    let e = v .kept .1 .0 ∙ length-take-le (a .n) (a .out .now) (omega arith) in (
+      omega (arith, s .ensures .0),
+      start-then-steps (a .m) (a .n) (s .result) (rows (a .n + 1) (a .n + 1) (a .basis .now)) (v .last .1 .0) (drop (a .n) (a .out .now))
+          (s .last .1 .0) e (v .ensures) (s .ensures .1),
+    )
+
+pub vectors-into-spec : {M : Type 1} → statement M
+vectors-into-spec =
+    tie.close
+    (tie.spec
+    slice-relend-prefix-vector-into
+    slice-aggregate-vector-into
+    vector-into-requires
+    mul-steps-into
+    sub-steps-into
+    part-steps-into-start
+    part-steps-into-end
+    steps-into-requires
+    add-result
+    same-length
+    returns)

@@ -1,0 +1,80 @@
+// What is read off a basis of equations in n unknowns, whose rows lie packed with no carried column.
+ghost use mathlib.Core.Path.{_≡_};
+ghost use mathlib.Core.List.{[]};
+ghost use Prim.Native.Nat.{ℕ, _+_, _*_, _<_, _≤_};
+ghost use lib.ListN.{length};
+ghost use Rattle.equations.specs.Answer.{andThen};
+ghost use Rattle.elimination.specs.Basis.{pivot};
+ghost use Rattle.tableau.specs.Packed.{rows, triangle};
+ghost use Rattle.system.specs.Reading.{Readable, Laid, readVector, readStep, readSteps, readVectors};
+use tableau::filling::turn;
+use tableau::substitution::extend;
+
+// How many numbers w packed rows are, the first of l numbers: l + (l - 1) + ..
+pub(crate) fn packed_size(w: usize, l: usize) -> usize
+    requires { ⌜ (w ≤ l) × (l ≤ 33) ⌝ }
+    ensures { λ r. ⌜ r ≡ triangle w l ⌝ }
+{
+    w * (2 * l + 1 - w) / 2
+}
+
+// The pivot of row i, for a first row of l numbers: its first number, behind the i rows in front of it.
+pub(crate) fn pivot_at(basis: &[u32], i: usize, l: usize) -> u32
+    requires { ⌜ (i < l) × (l ≤ 33) × (triangle i l < length (now basis)) ⌝ }
+    ensures { λ r. ⌜ ((w : ℕ) → i < w → r ≡ pivot i (rows w l (now (basis .entry)))) ⌝ }
+{
+    let at = packed_size(i, l);
+    basis[at]
+}
+
+// The vector with e in column i and zeros behind it; the columns in front by back substitution.
+fn vector_into(basis: &[u32], out: &mut [u32], m: u32, n: usize, i: usize, e: u32)
+    requires { ⌜ Readable m n (now basis) × (length (now out) ≡ n) × (i ≤ n) × (e < m) ⌝ }
+    ensures { λ _. ⌜ now (out .exit) ≡ readVector m n (rows (n + 1) (n + 1) (now (basis .entry))) i e ⌝ }
+{
+    let mut x = [0u32; 17];
+    x[i] = e;
+    let w = n + 1;
+    extend(basis, &mut x[..w], m, i, 0);
+    turn(&x[..w], out);
+}
+
+// The step of column i, if it has one; the number of steps written.
+fn step_into(basis: &[u32], out: &mut [u32], m: u32, n: usize, i: usize) -> usize
+    requires { ⌜ Readable m n (now basis) × (length (now out) ≡ n) × (i < n) ⌝ }
+    ensures { λ r. ⌜ (r ≤ 1) × Laid n (andThen (readStep m n (rows (n + 1) (n + 1) (now (basis .entry))) i) []) (now (out .exit)) r ⌝ }
+{
+    let d = pivot_at(basis, i, n + 1);
+    if d == 1 {
+        return 0;
+    }
+    vector_into(basis, out, m, n, i, m / d);
+    1
+}
+
+// All steps, one behind the other by rising place, which is falling column; their number.
+fn steps_into(basis: &[u32], out: &mut [u32], m: u32, n: usize) -> usize
+    requires { ⌜ Readable m n (now basis) × (n * n ≤ length (now out)) ⌝ }
+    ensures { λ r. ⌜ (r ≤ n) × Laid n (readSteps m n (rows (n + 1) (n + 1) (now (basis .entry))) n) (now (out .exit)) r ⌝ }
+{
+    let mut count: usize = 0;
+    let mut i = n;
+    while i > 0 {
+        i -= 1;
+        let at = count * n;
+        let end = at + n;
+        let written = step_into(basis, &mut out[at..end], m, n, i);
+        count += written;
+    }
+    count
+}
+
+// The starting vector, and the steps in the part behind it; the number of vectors.
+pub(crate) fn vectors_into(basis: &[u32], out: &mut [u32], m: u32, n: usize) -> usize
+    requires { ⌜ Readable m n (now basis) × (n + n * n ≤ length (now out)) ⌝ }
+    ensures { λ r. ⌜ (r ≤ n + 1) × Laid n (readVectors m n (rows (n + 1) (n + 1) (now (basis .entry)))) (now (out .exit)) r ⌝ }
+{
+    vector_into(basis, &mut out[..n], m, n, n, 1);
+    let steps = steps_into(basis, &mut out[n..], m, n);
+    steps + 1
+}

@@ -1,0 +1,106 @@
+// What two bases say of a claim: one of the equations, one of the claimed steps.
+ghost use mathlib.Core.Path.{_≡_};
+ghost use mathlib.Core.Bool.{not};
+ghost use Prim.Native.Nat.{_+_, _*_, _<_, _≤_};
+ghost use lib.ListN.{length};
+ghost use lib.Dec.{eqb};
+ghost use Rattle.equations.specs.Vectors.{Below};
+ghost use Rattle.elimination.specs.Basis.{insert, pivot};
+ghost use Rattle.elimination.specs.Basis.{basis as basisOf};
+ghost use Rattle.elimination.specs.Tableau.{tableau};
+ghost use Rattle.elimination.specs.Marking.{agree};
+ghost use Rattle.tableau.specs.Packed.{rows, triangle, Kept};
+ghost use Rattle.equations.specs.Lines.{equationsOf};
+ghost use Rattle.system.specs.Posed.{Posed};
+ghost use Rattle.system.specs.Claims.{vectorsOf};
+use crate::copying::copy;
+use crate::reading::packed_size;
+use crate::reading::pivot_at;
+use residue::modular::product;
+use residue::modular::wide;
+use tableau::building::build;
+use tableau::building::clear;
+use tableau::insertion::insert;
+
+// Whether nothing solves the lines: the constant's own pivot is not m then.
+pub(crate) fn unsolvable(m: u32, n: usize, lines: &[u32]) -> bool
+    requires { ⌜ Posed m n (now lines) ⌝ }
+    ensures { λ r. ⌜ r ≡ not (eqb (pivot n (tableau m n 0 (equationsOf n (now (lines .entry))))) m) ⌝ }
+{
+    let mut rows = [0u32; 153];
+    let size = packed_size(n + 1, n + 1);
+    build(&mut rows[..size], lines, m, n, 0);
+    pivot_at(&rows[..size], n, n + 1) != m
+}
+
+// Whether no step is missing.
+pub(crate) fn reaches_all(m: u32, n: usize, lines: &[u32], steps: &[u32]) -> bool
+    requires { ⌜ Posed m n (now lines) × Below m (now steps) ⌝ }
+    ensures { λ r. ⌜ r ≡ agree m n (tableau m n 0 (equationsOf n (now (lines .entry))))
+        (basisOf m n 0 (vectorsOf n (now (steps .entry)))) ⌝ }
+{
+    let mut rows = [0u32; 153];
+    let size = packed_size(n + 1, n + 1);
+    build(&mut rows[..size], lines, m, n, 0);
+    reaches(m, n, &rows[..size], steps)
+}
+
+// The same for a basis of the lines.
+fn reaches(m: u32, n: usize, equations: &[u32], steps: &[u32]) -> bool
+    requires { ⌜ (0 < m) × (0 < n) × (n ≤ 16) × (length (now equations) ≡ triangle (n + 1) (n + 1)) × Below m (now steps) ⌝ }
+    ensures { λ r. ⌜ r ≡ agree m n (rows (n + 1) (n + 1) (now (equations .entry)))
+        (basisOf m n 0 (vectorsOf n (now (steps .entry)))) ⌝ }
+{
+    let mut rows = [0u32; 153];
+    let size = packed_size(n, n);
+    span(&mut rows[..size], steps, m, n);
+    agree(m, n, equations, &rows[..size])
+}
+
+// The basis of the steps, as lines of n columns.
+fn span(basis: &mut [u32], steps: &[u32], m: u32, n: usize)
+    requires { ⌜ (0 < m) × (0 < n) × (n ≤ 16) × (length (now basis) ≡ triangle n n) × Below m (now steps) ⌝ }
+    ensures { λ _. ⌜ rows n n (now (basis .exit)) ≡ basisOf m n 0 (vectorsOf n (now (steps .entry))) ⌝ }
+{
+    clear(basis, m, n, 0);
+    let mut rest = &steps[..];
+    while n <= rest.len() {
+        insert_step(basis, &rest[..n], m, n);
+        rest = &rest[n..];
+    }
+}
+
+// One step put into a basis. It is copied, since the insertion changes its line.
+fn insert_step(basis: &mut [u32], step: &[u32], m: u32, n: usize)
+    requires { ⌜ (n ≤ 16) × (length (now step) ≡ n) × (length (now basis) ≡ triangle n n) ⌝ }
+    requires { ⌜ Kept m (rows n n (now basis)) × Below m (now step) ⌝ }
+    ensures { λ _. ⌜ rows n n (now (basis .exit)) ≡ insert m (rows n n (now (basis .entry))) (now (step .entry)) ⌝ }
+    ensures { λ _. ⌜ Kept m (rows n n (now (basis .exit))) ⌝ }
+{
+    let mut line = [0u32; 16];
+    copy(step, &mut line);
+    insert(basis, &mut line[..n], m, n);
+}
+
+// Whether at each place the pivots of the two bases multiply to m: no step is missing then.
+fn agree(m: u32, n: usize, equations: &[u32], steps: &[u32]) -> bool
+    requires { ⌜ (n ≤ 16) × (length (now equations) ≡ triangle (n + 1) (n + 1)) × (length (now steps) ≡ triangle n n) ⌝ }
+    ensures { λ r. ⌜ r ≡ agree m n (rows (n + 1) (n + 1) (now (equations .entry))) (rows n n (now (steps .entry))) ⌝ }
+{
+    let mut j = n;
+    while j > 0 {
+        j -= 1;
+        let of_step = pivot_at(steps, j, n);
+        let of_equation = pivot_at(equations, n - 1 - j, n + 1);
+        if !product_is(of_step, of_equation, m) {
+            return false;
+        }
+    }
+    true
+}
+
+fn product_is(a: u32, b: u32, m: u32) -> bool
+    ensures { λ r. ⌜ r ≡ eqb (a * b) m ⌝ }
+{
+    product(a, b) == wide(m)
+}
