@@ -60,7 +60,8 @@ module _ (m n k : ℕ) (es : List Equation) (pos : 0 < m) (shaped : Shaped n es)
       by-test (inl t) = rw t (sym (answer-no-step m n k es pos shaped i j h (eqb-true (pivot i B) 1 t)))
       by-test (inr f) =
           rw f
-          (sym (answer-step m n k es pos shaped i j h (above (eqb-false (pivot i B) 1 f)) ∙ ap some (step-vector m n i j (m / pivot i B) B h)))
+          (sym (answer-step m n k es pos shaped i j h (above (eqb-false (pivot i B) 1 f))
+          ∙ ap some (step-vector m n i j (m / pivot i B) B h)))
         where
           above : (pivot i B ≡ 1 → ⊥) → 1 < pivot i B
           above ne = omega (arith, positive)
@@ -86,7 +87,8 @@ unfolding flatten
 vectors-head none ss ks h = absurd (omega arith)
 vectors-head (some v) ss ks h = refl
 
-no-vectors-head : (o : Option (List ℕ)) (ss : List (List ℕ)) (ks : List ℕ) → length (vectorsWith o ss) ≡ 0 → 0 ∷ ks ≡ blockWith o ss ks
+no-vectors-head : (o : Option (List ℕ)) (ss : List (List ℕ)) (ks : List ℕ) → length (vectorsWith o ss) ≡ 0
+    → 0 ∷ ks ≡ blockWith o ss ks
 no-vectors-head none ss ks h = refl
 no-vectors-head (some v) ss ks h = absurd (omega arith)
 

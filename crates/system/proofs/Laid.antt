@@ -30,7 +30,8 @@ module _ (m n i : ℕ) (B : List (List ℕ)) (out : List ℕ) where
     front = take-all (1 * n) out (omega (arith, one-mul n)) ∙ v ∙ sym (append-nil _);
   })
 
-pub laid-cons : (n r : ℕ) (v p : List ℕ) (vs : List (List ℕ)) → length v ≡ n → Laid n vs p r → Laid n (v ∷ vs) (v ++ p) (r + 1)
+pub laid-cons : (n r : ℕ) (v p : List ℕ) (vs : List (List ℕ)) → length v ≡ n → Laid n vs p r
+    → Laid n (v ∷ vs) (v ++ p) (r + 1)
 unfolding flatten
 laid-cons n r v p vs e w =
     let k : (r + 1) * n ≡ length v + r * n = omega arith in
@@ -64,7 +65,8 @@ pub record Left (m n : ℕ) (B : List (List ℕ)) (out : List ℕ) (c i : ℕ) :
 pub left-all : (m n : ℕ) (B : List (List ℕ)) (out : List ℕ) → Left m n B out 0 n
 left-all m n B out = record { places = omega arith; count = omega arith; numbers = rw (zero-mul n) }
 
-pub left-none : (m n i c : ℕ) (B : List (List ℕ)) (out : List ℕ) → i ≡ 0 → Left m n B out c i → Laid n (readSteps m n B n) out c
+pub left-none : (m n i c : ℕ) (B : List (List ℕ)) (out : List ℕ) → i ≡ 0 → Left m n B out c i
+    → Laid n (readSteps m n B n) out c
 unfolding flatten
 left-none m n zero c B out z l = record { count = omega (arith, l .count); front = sym (append-nil _) ∙ l .numbers }
 left-none m n (suc i) c B out z l = absurd (omega arith)
@@ -89,8 +91,8 @@ module _ (n c r : ℕ) (out p rest : List ℕ) (fits : c * n ≤ length out) (wh
       ∙ ap (λ (z : List ℕ). take (c * n) out ++ z) (flatten-then o ss)
       ∙ h
 
-  pub left-less : (m i : ℕ) (B : List (List ℕ)) → 0 < i → Laid n (andThen (readStep m n B (i - 1)) []) p r → Left m n B out c i
-      → Left m n B (take (c * n) out ++ (p ++ rest)) (c + r) (i - 1)
+  pub left-less : (m i : ℕ) (B : List (List ℕ)) → 0 < i → Laid n (andThen (readStep m n B (i - 1)) []) p r
+      → Left m n B out c i → Left m n B (take (c * n) out ++ (p ++ rest)) (c + r) (i - 1)
   left-less m i B pos w l =
       let o = readStep m n B (i - 1) in
       let ss = readSteps m n B (i - 1) in
@@ -98,7 +100,9 @@ module _ (n c r : ℕ) (out p rest : List ℕ) (fits : c * n ≤ length out) (wh
       record {
         places = omega (arith, l .places);
         count = omega (arith, w .count, length-then o ss, l .count, ap length e);
-        numbers = more o ss (readSteps m n B n) w (ap (λ (vs : List (List ℕ)). take (c * n) out ++ flatten vs) (sym e) ∙ l .numbers);
+        numbers =
+            more o ss (readSteps m n B n) w
+            (ap (λ (vs : List (List ℕ)). take (c * n) out ++ flatten vs) (sym e) ∙ l .numbers);
       }
 
 -- ---- there is room for all of them

@@ -1,5 +1,5 @@
--- What is read off a basis B of equations in n unknowns mod m, column by column from the last unknown's to the first one's.
--- The unknowns stand in reverse order, so that column i belongs to the place n - 1 - i. Definitions only.
+-- What is read off a basis B of equations in n unknowns mod m. The unknowns stand in reverse order in it, so that column i
+-- belongs to the place n - 1 - i. Definitions only.
 use mathlib.Core.Path.{_≡_}
 use mathlib.Core.List.{List, [], _∷_, flatten}
 use mathlib.Core.Option.{Option, none, some}
@@ -14,12 +14,16 @@ use Rattle.elimination.specs.Substitution.{extend}
 use Rattle.elimination.specs.Tableau.{turned}
 use Rattle.tableau.specs.Packed.{rows, triangle, Kept}
 
--- s holds the rows of a basis of equations in n unknowns, with no carried column
+-- the rows that lie in s, with no carried column
+abbrev pub rowsIn : ℕ → List ℕ → List (List ℕ)
+rowsIn n s = rows (n + 1) (n + 1) s
+
+-- they are those of a basis of equations in n unknowns
 pub record Readable (m n : ℕ) (s : List ℕ) : Type 0 where
   pub modulus : 1 < m
   pub unknowns : n ≤ 16
   pub size : length s ≡ triangle (n + 1) (n + 1)
-  pub kept : Kept m (rows (n + 1) (n + 1) s)
+  pub kept : Kept m (rowsIn n s)
 
 -- the vector with e in column i, zeros in those behind it, and what back substitution puts in front
 unfoldable pub readVector : ℕ → ℕ → List (List ℕ) → ℕ → ℕ → List ℕ

@@ -3,5 +3,6 @@ mod checking;
 pub mod copying;
 pub mod marking;
 mod reading;
+mod runs;
 pub mod solving;
 mod spanning;

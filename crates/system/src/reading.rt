@@ -6,7 +6,7 @@ ghost use lib.ListN.{length};
 ghost use Rattle.equations.specs.Answer.{andThen};
 ghost use Rattle.elimination.specs.Basis.{pivot};
 ghost use Rattle.tableau.specs.Packed.{rows, triangle};
-ghost use Rattle.system.specs.Reading.{Readable, Laid, readVector, readStep, readSteps, readVectors};
+ghost use Rattle.system.specs.Reading.{rowsIn, Readable, Laid, readVector, readStep, readSteps, readVectors};
 use tableau::filling::turn;
 use tableau::substitution::extend;
 
@@ -30,7 +30,7 @@ pub(crate) fn pivot_at(basis: &[u32], i: usize, l: usize) -> u32
 // The vector with e in column i and zeros behind it; the columns in front by back substitution.
 fn vector_into(basis: &[u32], out: &mut [u32], m: u32, n: usize, i: usize, e: u32)
     requires { ⌜ Readable m n (now basis) × (length (now out) ≡ n) × (i ≤ n) × (e < m) ⌝ }
-    ensures { λ _. ⌜ now (out .exit) ≡ readVector m n (rows (n + 1) (n + 1) (now (basis .entry))) i e ⌝ }
+    ensures { λ _. ⌜ now (out .exit) ≡ readVector m n (rowsIn n (now (basis .entry))) i e ⌝ }
 {
     let mut x = [0u32; 17];
     x[i] = e;
@@ -42,7 +42,7 @@ fn vector_into(basis: &[u32], out: &mut [u32], m: u32, n: usize, i: usize, e: u3
 // The step of column i, if it has one; the number of steps written.
 fn step_into(basis: &[u32], out: &mut [u32], m: u32, n: usize, i: usize) -> usize
     requires { ⌜ Readable m n (now basis) × (length (now out) ≡ n) × (i < n) ⌝ }
-    ensures { λ r. ⌜ (r ≤ 1) × Laid n (andThen (readStep m n (rows (n + 1) (n + 1) (now (basis .entry))) i) []) (now (out .exit)) r ⌝ }
+    ensures { λ r. ⌜ (r ≤ 1) × Laid n (andThen (readStep m n (rowsIn n (now (basis .entry))) i) []) (now (out .exit)) r ⌝ }
 {
     let d = pivot_at(basis, i, n + 1);
     if d == 1 {
@@ -55,7 +55,7 @@ fn step_into(basis: &[u32], out: &mut [u32], m: u32, n: usize, i: usize) -> usiz
 // All steps, one behind the other by rising place, which is falling column; their number.
 fn steps_into(basis: &[u32], out: &mut [u32], m: u32, n: usize) -> usize
     requires { ⌜ Readable m n (now basis) × (n * n ≤ length (now out)) ⌝ }
-    ensures { λ r. ⌜ (r ≤ n) × Laid n (readSteps m n (rows (n + 1) (n + 1) (now (basis .entry))) n) (now (out .exit)) r ⌝ }
+    ensures { λ r. ⌜ (r ≤ n) × Laid n (readSteps m n (rowsIn n (now (basis .entry))) n) (now (out .exit)) r ⌝ }
 {
     let mut count: usize = 0;
     let mut i = n;
@@ -72,7 +72,7 @@ fn steps_into(basis: &[u32], out: &mut [u32], m: u32, n: usize) -> usize
 // The starting vector, and the steps in the part behind it; the number of vectors.
 pub(crate) fn vectors_into(basis: &[u32], out: &mut [u32], m: u32, n: usize) -> usize
     requires { ⌜ Readable m n (now basis) × (n + n * n ≤ length (now out)) ⌝ }
-    ensures { λ r. ⌜ (r ≤ n + 1) × Laid n (readVectors m n (rows (n + 1) (n + 1) (now (basis .entry)))) (now (out .exit)) r ⌝ }
+    ensures { λ r. ⌜ (r ≤ n + 1) × Laid n (readVectors m n (rowsIn n (now (basis .entry)))) (now (out .exit)) r ⌝ }
 {
     vector_into(basis, &mut out[..n], m, n, n, 1);
     let steps = steps_into(basis, &mut out[n..], m, n);

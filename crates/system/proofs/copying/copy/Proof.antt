@@ -1,5 +1,5 @@
--- `copying::copy` meets its contract. The invariant: the first i numbers are copied, those behind them as they were. The measure
--- is what is left.
+-- `copying::copy` meets its contract. The invariant: the first i numbers are copied, those behind them as they were. The
+-- measure is what is left.
 use mathlib.Core.Path.{_≡_, refl, sym, ap, _∙_}
 use mathlib.Core.List.{List, _++_}
 use Prim.Native.Nat.{ℕ, suc, _+_, _-_, _<_, _≤_}

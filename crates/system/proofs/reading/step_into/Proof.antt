@@ -1,5 +1,5 @@
--- `reading::step_into` meets its contract: the pivot 1 has no step, and any other, which is above 1, has the one with m / d in its
--- column.
+-- `reading::step_into` meets its contract: the pivot 1 has no step, and any other, which is above 1, has the one with m / d in
+-- its column.
 use mathlib.Core.Path.{_≡_, sym, ap, _∙_}
 use mathlib.Core.List.{List, []}
 use Prim.Native.Nat.{ℕ, _+_, _/_, _<_}
@@ -9,14 +9,13 @@ use lib.ListN.{length}
 use borrow.Author.Needs.{needs}
 use Rattle.equations.specs.Answer.{andThen}
 use Rattle.elimination.specs.Basis.{pivot}
-use Rattle.tableau.specs.Packed.{rows}
-use Rattle.system.specs.Reading.{Readable, Laid, readVector, readStep}
+use Rattle.system.specs.Reading.{rowsIn, Readable, Laid, readVector, readStep}
 use Rattle.system.proofs.Rows.{triangle-within, pivot-kept}
 use Rattle.system.proofs.Laid.{laid-none, laid-one}
 use Rattle.system.proofs.reading.step_into.Statement.{statement}
 use Rattle.system.proofs.reading.step_into.Tie as tie
 
-positive : (m n i d : ℕ) (s : List ℕ) → Readable m n s → i < n → d ≡ pivot i (rows (n + 1) (n + 1) s) → 0 < d
+positive : (m n i d : ℕ) (s : List ℕ) → Readable m n s → i < n → d ≡ pivot i (rowsIn n s) → 0 < d
 positive m n i d s r h e =
     omega (arith, pivot-kept m (n + 1) i (n + 1) s (omega arith) (omega arith) (r .size) (r .kept))
 
@@ -42,7 +41,7 @@ returns c =
     let a = c .before .before .before .before .args in
     let d = c .before .pivot-at in (
       omega arith,
-      laid-none (a .m) (a .n) (a .i) (rows (a .n + 1) (a .n + 1) (a .basis .now)) (a .out .now)
+      laid-none (a .m) (a .n) (a .i) (rowsIn (a .n) (a .basis .now)) (a .out .now)
           (sym (d .ensures (a .n + 1) (omega arith)) ∙ c .if1 .taken),
     )
 
@@ -58,7 +57,8 @@ vector-into-requires c κs =
     let z = c .before .before .before .before .before in
     let a = z .args in
     let d = c .before .before .pivot-at in
-    let pos = positive (a .m) (a .n) (a .i) (d .result) (a .basis .now) (z .pre .0) (omega arith) (d .ensures (a .n + 1) (omega arith)) in (
+    let e = d .ensures (a .n + 1) (omega arith) in
+    let pos = positive (a .m) (a .n) (a .i) (d .result) (a .basis .now) (z .pre .0) (omega arith) e in (
       z .pre .0,
       z .pre .1,
       omega arith,
@@ -75,8 +75,9 @@ returns-2 c =
     let v = c .before .before .vector-into in
     let d = c .before .before .before .before .before .pivot-at in (
       omega arith,
-      one-step (a .m) (a .n) (a .i) (d .result) (rows (a .n + 1) (a .n + 1) (a .basis .now)) (v .last .1 .0)
-          (d .ensures (a .n + 1) (omega arith)) (c .before .before .before .before .if1 .left) (v .kept .1 .0 ∙ z .pre .1) (v .ensures),
+      one-step (a .m) (a .n) (a .i) (d .result) (rowsIn (a .n) (a .basis .now)) (v .last .1 .0)
+          (d .ensures (a .n + 1) (omega arith)) (c .before .before .before .before .if1 .left)
+          (v .kept .1 .0 ∙ z .pre .1) (v .ensures),
     )
 
 pub step-into-spec : {M : Type 1} → statement M

@@ -1,18 +1,18 @@
--- `reading::steps_into` meets its contract. The invariant: what is written and the steps of the first i columns are all steps.
--- The measure is i.
+-- `reading::steps_into` meets its contract. The invariant: what is written and the steps of the first i columns are all
+-- steps. The measure is i.
 use mathlib.Core.Path.{_≡_, _∙_}
 use Prim.Native.Nat.{_+_, _-_, _*_}
 use native.Mathlib.Omega.{arith}
 use lib.ListN.{length, drop}
 use borrow.Author.Needs.{needs}
-use Rattle.tableau.specs.Packed.{rows}
+use Rattle.system.specs.Reading.{rowsIn}
 use Rattle.system.proofs.Laid.{Left, left-all, left-less, left-none, room, few, lent}
 use Rattle.system.proofs.reading.steps_into.Statement.{statement}
 use Rattle.system.proofs.reading.steps_into.Tie as tie
 
 abbrev Inv-loop : tie.InvT-loop
 Inv-loop basis out₀ m n count₀ i₀ out count i =
-    (length out ≡ length out₀) × Left m n (rows (n + 1) (n + 1) basis) out count i
+    (length out ≡ length out₀) × Left m n (rowsIn n basis) out count i
 
 abbrev μ-loop : tie.MeasureT-loop
 μ-loop basis out₀ m n count₀ i₀ out count i = i
@@ -20,7 +20,7 @@ abbrev μ-loop : tie.MeasureT-loop
 loop-holds : tie.Need-loop-holds Inv-loop μ-loop
 loop-holds c =
     let a = c .before .before .args in
-    (search needs, left-all (a .m) (a .n) (rows (a .n + 1) (a .n + 1) (a .basis .now)) (a .out .now))
+    (search needs, left-all (a .m) (a .n) (rowsIn (a .n) (a .basis .now)) (a .out .now))
 
 sub-i : tie.Need-sub-i Inv-loop μ-loop
 sub-i c = search needs
@@ -29,19 +29,22 @@ mul-at : tie.Need-mul-at Inv-loop μ-loop
 mul-at c =
     let l = c .before .loop in
     let z = c .before .before .before .before in
-    omega (arith, room (z .args .n) (l .count) (l .i) (l .inv .1 .places) (omega arith), few (z .args .n) (z .pre .0 .unknowns))
+    let r = room (z .args .n) (l .count) (l .i) (l .inv .1 .places) (omega arith) in
+    omega (arith, r, few (z .args .n) (z .pre .0 .unknowns))
 
 add-end : tie.Need-add-end Inv-loop μ-loop
 add-end c =
     let l = c .before .loop in
     let z = c .before .before .before .before in
-    omega (arith, room (z .args .n) (l .count) (l .i) (l .inv .1 .places) (omega arith), few (z .args .n) (z .pre .0 .unknowns))
+    let r = room (z .args .n) (l .count) (l .i) (l .inv .1 .places) (omega arith) in
+    omega (arith, r, few (z .args .n) (z .pre .0 .unknowns))
 
 mul-step-into : tie.Need-mul-step-into Inv-loop μ-loop
 mul-step-into c =
     let l = c .before .loop in
     let z = c .before .before .before .before in
-    omega (arith, room (z .args .n) (l .count) (l .i) (l .inv .1 .places) (omega arith), few (z .args .n) (z .pre .0 .unknowns))
+    let r = room (z .args .n) (l .count) (l .i) (l .inv .1 .places) (omega arith) in
+    omega (arith, r, few (z .args .n) (z .pre .0 .unknowns))
 
 sub-step-into : tie.Need-sub-step-into Inv-loop μ-loop
 sub-step-into c = search needs
@@ -53,13 +56,18 @@ part-step-into-end : tie.Need-part-step-into-end Inv-loop μ-loop
 part-step-into-end c =
     let l = c .before .loop in
     let z = c .before .before .before .before in
-    omega (arith, room (z .args .n) (l .count) (l .i) (l .inv .1 .places) (omega arith), few (z .args .n) (z .pre .0 .unknowns))
+    let r = room (z .args .n) (l .count) (l .i) (l .inv .1 .places) (omega arith) in
+    omega (arith, r, few (z .args .n) (z .pre .0 .unknowns))
 
 step-into-requires : tie.Need-step-into-requires Inv-loop μ-loop
 step-into-requires c κs =
     let l = c .before .before .loop in
     let z = c .before .before .before .before .before in
-    (z .pre .0, lent (z .args .n) (l .count) (l .i) (l .out) (l .inv .1 .places) (omega arith) (omega (arith, l .inv .0)), omega arith)
+    let n = z .args .n in (
+      z .pre .0,
+      lent n (l .count) (l .i) (l .out) (l .inv .1 .places) (omega arith) (omega (arith, l .inv .0)),
+      omega arith,
+    )
 
 add-count : tie.Need-add-count Inv-loop μ-loop
 add-count c = search needs
@@ -77,8 +85,9 @@ loop-again c =
       left-less (a .n) (l .count) (s .result) (l .out) (s .last .1 .0)
           (drop (l .count * a .n + a .n - l .count * a .n) (drop (l .count * a .n) (l .out)))
           (omega (arith, room (a .n) (l .count) (l .i) (l .inv .1 .places) (omega arith)))
-          (s .kept .1 .0 ∙ lent (a .n) (l .count) (l .i) (l .out) (l .inv .1 .places) (omega arith) (omega (arith, l .inv .0)))
-          (s .ensures .0) (a .m) (l .i) (rows (a .n + 1) (a .n + 1) (a .basis .now)) (omega arith) (s .ensures .1) (l .inv .1),
+          (s .kept .1 .0
+          ∙ lent (a .n) (l .count) (l .i) (l .out) (l .inv .1 .places) (omega arith) (omega (arith, l .inv .0)))
+          (s .ensures .0) (a .m) (l .i) (rowsIn (a .n) (a .basis .now)) (omega arith) (s .ensures .1) (l .inv .1),
     )
 
 same-length : tie.Need-same-length Inv-loop μ-loop
@@ -89,7 +98,7 @@ returns c =
     let l = c .before .loop in
     let a = c .before .before .before .before .args in (
       omega (arith, l .inv .1 .places),
-      left-none (a .m) (a .n) (l .i) (l .count) (rows (a .n + 1) (a .n + 1) (a .basis .now)) (l .out) (omega arith) (l .inv .1),
+      left-none (a .m) (a .n) (l .i) (l .count) (rowsIn (a .n) (a .basis .now)) (l .out) (omega arith) (l .inv .1),
     )
 
 pub steps-into-spec : {M : Type 1} → statement M

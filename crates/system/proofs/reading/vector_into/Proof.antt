@@ -1,4 +1,4 @@
--- `reading::vector_into` meets its contract: from zeros with e in column i, back substitution and then the vector turned round.
+-- `reading::vector_into` meets its contract: back substitution from zeros with e in column i, and the vector turned round.
 use mathlib.Core.Path.{_≡_, sym, ap, _∙_}
 use mathlib.Core.List.{List, [], _++_}
 use Prim.Native.Nat.{ℕ, _+_, _≤_}
@@ -19,7 +19,10 @@ rows-lent : (m n i k : ℕ) (s : List ℕ) → Readable m n s → i ≤ n → k 
     → (triangle i (k + 0) ≤ length s) × Kept m (rows i (k + 0) s)
 rows-lent m n i k s r h e =
     let f : k + 0 ≡ n + 1 = omega arith in
-    rw f (omega (arith, triangle-mono i (n + 1) (n + 1) (n + 1) (omega arith) (omega arith), r .size), kept-front m i (n + 1) (n + 1) s (omega arith) (r .kept))
+    rw f (
+      omega (arith, triangle-mono i (n + 1) (n + 1) (n + 1) (omega arith) (omega arith), r .size),
+      kept-front m i (n + 1) (n + 1) s (omega arith) (r .kept),
+    )
 
 -- what comes back is as long as what was lent
 whole : (n i e : ℕ) (x : List ℕ) → n ≤ 16 → length x ≡ length (take (n + 1) (seed i e)) → length x ≡ n + 1
@@ -48,10 +51,11 @@ extend-requires : tie.Need-extend-requires
 extend-requires c κs =
     let z = c .before .before .before in
     let a = z .args in
+    let x = take (a .n + 1) (seed (a .i) (a .e)) in
     let n = z .pre .0 .unknowns in
-    let r = rows-lent (a .m) (a .n) (a .i) (length (take (a .n + 1) (seed (a .i) (a .e)))) (a .basis .now) (z .pre .0) (z .pre .2)
-    (seed-front (a .n + 1) (a .i) (a .e) (omega arith)) in (
-      (omega (arith, seed-front (a .n + 1) (a .i) (a .e) (omega arith)), omega (arith, seed-front (a .n + 1) (a .i) (a .e) (omega arith)), r .0),
+    let e = seed-front (a .n + 1) (a .i) (a .e) (omega arith) in
+    let r = rows-lent (a .m) (a .n) (a .i) (length x) (a .basis .now) (z .pre .0) (z .pre .2) e in (
+      (omega (arith, e), omega (arith, e), r .0),
       (r .1, seed-below (a .m) (a .n) (a .i) (a .e) (z .pre .2) n (z .pre .3)),
     )
 
@@ -93,8 +97,9 @@ returns c =
     let x = c .before .before .before .before .before .before .extend in
     c .before .before .turn .ensures
     ∙ ap (λ (k : ℕ). turned k (take (a .n + 1) (x .last .1 .0 ++ drop (a .n + 1) (seed (a .i) (a .e)))) []) (z .pre .1)
-    ∙ seed-vector (a .m) (a .n) (a .i) (a .e) (a .basis .now) (x .last .1 .0) (drop (a .n + 1) (seed (a .i) (a .e))) (z .pre .2)
-    (z .pre .0 .unknowns) (whole (a .n) (a .i) (a .e) (x .last .1 .0) (z .pre .0 .unknowns) (x .kept .1 .0)) (x .ensures .0)
+    ∙ seed-vector (a .m) (a .n) (a .i) (a .e) (a .basis .now) (x .last .1 .0) (drop (a .n + 1) (seed (a .i) (a .e)))
+    (z .pre .2) (z .pre .0 .unknowns) (whole (a .n) (a .i) (a .e) (x .last .1 .0) (z .pre .0 .unknowns) (x .kept .1 .0))
+    (x .ensures .0)
 
 pub vector-into-spec : {M : Type 1} → statement M
 vector-into-spec =

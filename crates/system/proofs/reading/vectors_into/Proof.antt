@@ -5,9 +5,8 @@ use Prim.Native.Nat.{ℕ, _+_}
 use native.Mathlib.Omega.{arith}
 use lib.ListN.{length, drop}
 use lib.Seq.{length-take-le}
-use Rattle.tableau.specs.Packed.{rows}
 use Rattle.tableau.proofs.Parts.{putBack, put-behind}
-use Rattle.system.specs.Reading.{Laid, readVector, readSteps, readVectors}
+use Rattle.system.specs.Reading.{rowsIn, Laid, readVector, readSteps, readVectors}
 use Rattle.system.proofs.Laid.{laid-cons}
 use borrow.Author.Needs.{needs}
 use Rattle.system.proofs.reading.vectors_into.Statement.{statement}
@@ -32,7 +31,7 @@ vector-into-requires : tie.Need-vector-into-requires
 vector-into-requires c κs =
     let z = c .before .before .before in
     let a = z .args in
-    (z .pre .0, length-take-le (a .n) (a .out .now) (omega arith), omega arith, z .pre .0 .modulus)
+    (z .pre .0, length-take-le (a .n) (a .out .now) (omega arith), omega arith, omega (arith, z .pre .0 .modulus))
 
 mul-steps-into : tie.Need-mul-steps-into
 mul-steps-into c = search needs
@@ -63,7 +62,7 @@ returns c =
     let s = c .before .before .steps-into in
     let e = v .kept .1 .0 ∙ length-take-le (a .n) (a .out .now) (omega arith) in (
       omega (arith, s .ensures .0),
-      start-then-steps (a .m) (a .n) (s .result) (rows (a .n + 1) (a .n + 1) (a .basis .now)) (v .last .1 .0) (drop (a .n) (a .out .now))
+      start-then-steps (a .m) (a .n) (s .result) (rowsIn (a .n) (a .basis .now)) (v .last .1 .0) (drop (a .n) (a .out .now))
           (s .last .1 .0) e (v .ensures) (s .ensures .1),
     )
 

@@ -69,7 +69,8 @@ multipliers-into-requires c κs =
 returns : tie.Need-returns
 returns c =
     let z = c .before .before .before .before .before .before .before in
-    (refl, equations-few (z .args .n) (z .args .lines .now) (z .pre .equations), c .before .before .multipliers-into .ensures)
+    let few = equations-few (z .args .n) (z .args .lines .now) (z .pre .equations) in
+    ((refl, few), c .before .before .multipliers-into .ensures)
 
 pub refutation-spec : {M : Type 1} → statement M
 refutation-spec =

@@ -1,4 +1,5 @@
--- `solving::solve` meets its contract: either the vectors that were written are the block, or there are none and the multipliers are.
+-- `solving::solve` meets its contract: either the vectors that were written are the block, or there are none and the
+-- multipliers are.
 use mathlib.Core.Path.{refl, sym, ap₂, _∙_}
 use mathlib.Core.List.{List, _∷_}
 use Prim.Native.Nat.{ℕ, _+_, _*_, _≤_}
@@ -48,7 +49,8 @@ solution-into-requires c κs =
     let z = c .before .before .before .before in
     let s = c .before .before .packed-size in (
       z .pre,
-      length-take-le (s .result) (replicate 153 0) (omega (arith, s .ensures, small (z .args .n) (z .pre .unknowns))) ∙ s .ensures,
+      length-take-le (s .result) (replicate 153 0) (omega (arith, s .ensures, small (z .args .n) (z .pre .unknowns)))
+          ∙ s .ensures,
       refl,
     )
 
@@ -60,10 +62,11 @@ returns c =
     let z = c .before .before .before .before .before .before .before .before .before in
     let a = z .args in
     let s = c .before .before .before .before .solution-into in
+    let es = equationsOf (a .n) (a .lines .now) in
     let r = c .refutation in (
-      ap₂ (λ (k : ℕ) (ks : List ℕ). k ∷ ks) (r .ensures .0) (r .ensures .2)
-          ∙ block-refuted (a .m) (a .n) (s .result) (equationsOf (a .n) (a .lines .now)) (s .last .1 .0) (s .ensures .1) (c .before .if1 .taken),
-      omega (arith, r .ensures .1),
+      ap₂ (λ (k : ℕ) (ks : List ℕ). k ∷ ks) (r .ensures .0 .0) (r .ensures .1)
+          ∙ block-refuted (a .m) (a .n) (s .result) es (s .last .1 .0) (s .ensures .1) (c .before .if1 .taken),
+      omega (arith, r .ensures .0 .1),
     )
 
 cast-head : tie.Need-cast-head
@@ -79,8 +82,9 @@ returns-2 : tie.Need-returns-2
 returns-2 c =
     let z = c .before .before .before .before .before .before .before .before in
     let a = z .args in
+    let es = equationsOf (a .n) (a .lines .now) in
     let s = c .before .before .before .solution-into in (
-      block-solved (a .m) (a .n) (s .result) (equationsOf (a .n) (a .lines .now)) (s .last .1 .0) (s .ensures .1) (omega arith),
+      block-solved (a .m) (a .n) (s .result) es (s .last .1 .0) (s .ensures .1) (omega arith),
       numbers-fit (a .n) (s .result) (z .pre .unknowns) (s .ensures .0),
     )
 

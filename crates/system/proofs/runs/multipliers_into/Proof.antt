@@ -1,4 +1,4 @@
--- `solving::multipliers_into` meets its contract: the last k numbers of the tableau are the carried columns of its last row.
+-- `runs::multipliers_into` meets its contract: the last k numbers of the tableau are the carried columns of its last row.
 use mathlib.Core.Path.{_≡_, sym, ap, _∙_}
 use mathlib.Core.List.{List, [], _++_}
 use Prim.Native.Nat.{ℕ, _+_, _-_, _/_, _≤_}
@@ -14,18 +14,20 @@ use Rattle.tableau.proofs.Packed.{triangle-front}
 use Rattle.tableau.proofs.Parts.{lent, lent-is, lent-length}
 use Rattle.system.proofs.Rows.{carried-rows}
 use Rattle.system.proofs.Lines.{length-equations, equations-few}
-use Rattle.system.proofs.solving.multipliers_into.Statement.{statement}
-use Rattle.system.proofs.solving.multipliers_into.Tie as tie
+use Rattle.system.proofs.runs.multipliers_into.Statement.{statement}
+use Rattle.system.proofs.runs.multipliers_into.Tie as tie
 
 -- b is the basis that was built
-module _ (m n k : ℕ) (lines b : List ℕ) (number : k ≡ length lines / (n + 1)) (size : length b ≡ triangle (n + 1) (n + 1 + k)) where
+module _ (m n k : ℕ) (lines b : List ℕ) (number : k ≡ length lines / (n + 1))
+    (size : length b ≡ triangle (n + 1) (n + 1 + k)) where
   fits : k ≤ length b
   fits = omega (arith, triangle-front (n + 1) (n + 1 + k) (omega arith))
 
   long : length (lent (length b - k) b) ≡ k
   long = omega (arith, lent-length (length b - k) b, fits)
 
-  carried : rows (n + 1) (n + 1 + k) b ≡ tableau m n k (equationsOf n lines) → lent (length b - k) b ≡ multipliersOf m n (equationsOf n lines)
+  carried : rows (n + 1) (n + 1 + k) b ≡ tableau m n k (equationsOf n lines)
+      → lent (length b - k) b ≡ multipliersOf m n (equationsOf n lines)
   carried built =
       lent-is (length b - k) b
       ∙ sym (carried-rows n k b size)
@@ -55,7 +57,7 @@ sub-at c =
     let z = c .before .before .before .before .before .before .before in
     let a = z .args in
     let b = c .before .before .build in
-    fits (a .m) (a .n) (a .k) (a .lines .now) (b .last .0) (z .pre .0 .1) (b .kept .0 ∙ z .pre .1 .0)
+    omega (arith, fits (a .m) (a .n) (a .k) (a .lines .now) (b .last .0) (z .pre .0 .1) (b .kept .0 ∙ z .pre .1 .0))
 
 mul-copy : tie.Need-mul-copy
 mul-copy c = search needs
@@ -93,8 +95,9 @@ returns c =
     let z = c .before .before .before .before .before .before .before .before .before .before .before .before .before in
     let a = z .args in
     let b = c .before .before .before .before .before .before .before .before .build in
-    copied (a .m) (a .n) (a .k) (a .lines .now) (b .last .0) (z .pre .0 .1) (b .kept .0 ∙ z .pre .1 .0) (c .before .before .copy .last .1 .0)
-    (drop (length (lent (length (b .last .0) - a .k) (b .last .0))) (a .out .now)) (b .ensures .0) (c .before .before .copy .ensures)
+    copied (a .m) (a .n) (a .k) (a .lines .now) (b .last .0) (z .pre .0 .1) (b .kept .0 ∙ z .pre .1 .0)
+    (c .before .before .copy .last .1 .0) (drop (length (lent (length (b .last .0) - a .k) (b .last .0))) (a .out .now))
+    (b .ensures .0) (c .before .before .copy .ensures)
 
 pub multipliers-into-spec : {M : Type 1} → statement M
 multipliers-into-spec =

@@ -1,5 +1,5 @@
--- `solving::solution_into` meets its contract: the constant's pivot tells whether there is a solution, and then the vectors that are
--- read off the tableau are those of the answer.
+-- `runs::solution_into` meets its contract: the constant's pivot tells whether there is a solution, and then the vectors
+-- that are read off the tableau are those of the answer.
 use mathlib.Core.Path.{_≡_, refl, sym, ap, _∙_, subst}
 use mathlib.Core.List.{List, flatten}
 use Prim.Native.Nat.{ℕ, _+_}
@@ -17,8 +17,8 @@ use Rattle.system.proofs.Rows.{triangle-within}
 use Rattle.system.proofs.Lines.{equations-shaped}
 use Rattle.system.proofs.Laid.{few}
 use Rattle.system.proofs.Answer.{vectors-solved, vectors-none}
-use Rattle.system.proofs.solving.solution_into.Statement.{statement}
-use Rattle.system.proofs.solving.solution_into.Tie as tie
+use Rattle.system.proofs.runs.solution_into.Statement.{statement}
+use Rattle.system.proofs.runs.solution_into.Tie as tie
 
 -- b is the basis that was built
 module _ (m n : ℕ) (lines b : List ℕ) (posed : Posed m n lines) where
@@ -62,7 +62,12 @@ pivot-at-requires c κs =
     let n = z .args .n in (
       omega arith,
       omega (arith, z .pre .0 .unknowns),
-      omega (arith, triangle-within (n + 1) n (n + 1) (omega arith) (omega arith), c .before .before .before .build .kept .0, z .pre .1),
+      omega (
+        arith,
+        triangle-within (n + 1) n (n + 1) (omega arith) (omega arith),
+        c .before .before .before .build .kept .0,
+        z .pre .1,
+      ),
     )
 
 same-length : tie.Need-same-length
@@ -74,7 +79,8 @@ returns c =
     let a = z .args in
     let b = c .before .before .before .before .before .build in (
       omega arith,
-      unsolved (a .m) (a .n) (a .lines .now) (b .last .0) (z .pre .0) (c .before .pivot-at .result) (a .out .now) (b .ensures .0)
+      unsolved (a .m) (a .n) (a .lines .now) (b .last .0) (z .pre .0) (c .before .pivot-at .result) (a .out .now)
+          (b .ensures .0)
           (c .before .pivot-at .ensures (a .n + 1) (omega arith)) (c .if1 .taken),
     )
 
@@ -102,7 +108,8 @@ returns-2 c =
     let v = c .before .before .vectors-into in (
       v .ensures .0,
       solved (a .m) (a .n) (a .lines .now) (b .last .0) (z .pre .0) (d .result) (v .last .1 .0) (b .ensures .0)
-          (d .ensures (a .n + 1) (omega arith)) (v .result) (c .before .before .before .before .before .if1 .left) (v .ensures .1),
+          (d .ensures (a .n + 1) (omega arith)) (v .result)
+          (c .before .before .before .before .before .if1 .left) (v .ensures .1),
     )
 
 pub solution-into-spec : {M : Type 1} → statement M
