@@ -5,6 +5,7 @@
 extern "C" {
     fn milebadger_gcd(a: u32, b: u32, out: *mut u32, out_len: usize) -> i64;
     fn milebadger_congruence(a: u32, b: u32, m: u32, out: *mut u32, out_len: usize) -> i64;
+    fn milebadger_solve(m: u32, n: u32, lines: *const u32, lines_len: usize, out: *mut u32, out_len: usize) -> i64;
 }
 
 /// What a call gave back: its result, and the lent memory after it.
@@ -54,3 +55,16 @@ pub fn gcd(a: u32, b: u32, len: usize) -> Reply {
 pub fn congruence(a: u32, b: u32, m: u32, len: usize) -> Reply {
     lend(len, |out, len| unsafe { milebadger_congruence(a, b, m, out, len) })
 }
+
+pub fn solve(m: u32, n: u32, lines: &[u32], len: usize) -> Reply {
+    let mut lent = vec![GUARD; GUARDS];
+    lent.extend(lines);
+    lent.extend([GUARD; GUARDS]);
+    let before = lent.clone();
+    let reply = lend(len, |out, len| unsafe { milebadger_solve(m, n, lent[GUARDS..].as_ptr(), lines.len(), out, len) });
+    assert_eq!(lent, before, "the lines were written");
+    reply
+}
+
+/// The longest answer block: a head, a start and 16 steps of 16 numbers.
+pub const LONGEST_BLOCK: usize = 1 + 17 * 16;

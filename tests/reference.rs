@@ -75,3 +75,98 @@ pub fn congruence(a: u32, b: u32, m: u32) -> Congruence {
         }
     }
 }
+
+/// A list of equations mod m in n unknowns; an equation is n coefficients and a right side.
+#[derive(Clone, Debug)]
+pub struct System {
+    pub m: u32,
+    pub n: usize,
+    pub equations: Vec<Vec<u32>>,
+}
+
+impl System {
+    /// The equations as the call takes them, one behind the other.
+    pub fn lines(&self) -> Vec<u32> {
+        self.equations.concat()
+    }
+
+    /// The same equations "with right sides put to 0".
+    pub fn homogeneous(&self) -> System {
+        let mut equations = self.equations.clone();
+        equations.iter_mut().for_each(|equation| equation[self.n] = 0);
+        System { equations, ..self.clone() }
+    }
+
+    /// "A vector solves an equation if the sum of coefficient times entry leaves the right side mod m."
+    pub fn solved_by(&self, vector: &[u32]) -> bool {
+        let m = self.m as u128;
+        self.equations.iter().all(|equation| {
+            let sum: u128 = vector.iter().zip(equation).map(|(&x, &a)| x as u128 * a as u128).sum();
+            sum % m == equation[self.n] as u128 % m
+        })
+    }
+
+    /// "Multipliers, one residue for each equation, such that the equations so multiplied add up mod m to zero coefficients and a
+    /// non-zero right side."
+    pub fn refuted_by(&self, multipliers: &[u32]) -> bool {
+        let m = self.m as u128;
+        let column = |j: usize| -> u128 {
+            multipliers.iter().zip(&self.equations).map(|(&c, equation)| c as u128 * equation[j] as u128).sum::<u128>() % m
+        };
+        multipliers.len() == self.equations.len()
+            && multipliers.iter().all(|&c| c < self.m)
+            && (0..self.n).all(|j| column(j) == 0)
+            && column(self.n) != 0
+    }
+}
+
+/// The vectors of n residues in dictionary order.
+pub fn vectors(m: u32, n: usize) -> impl Iterator<Item = Vec<u32>> {
+    let mut next = Some(vec![0; n]);
+    std::iter::from_fn(move || {
+        let vector = next.take()?;
+        next = (0..n).rev().find(|&j| vector[j] + 1 < m).map(|j| {
+            let mut following = vector.clone();
+            following[j] += 1;
+            following[j + 1..].fill(0);
+            following
+        });
+        Some(vector)
+    })
+}
+
+/// The answer to a list of equations where there is a solution.
+#[derive(Clone, Debug, PartialEq)]
+pub struct Answer {
+    pub start: Vec<u32>,
+    pub steps: Vec<Vec<u32>>,
+}
+
+/// "Starting vector: the first solution in dictionary order. Step at place j: among the vectors that solve all the equations with
+/// right sides put to 0, and whose first non-zero entry is at j, the first in dictionary order." None where nothing solves them.
+pub fn answer(system: &System) -> Option<Answer> {
+    let start = vectors(system.m, system.n).find(|v| system.solved_by(v))?;
+    let homogeneous = system.homogeneous();
+    let mut steps = vec![None; system.n];
+    for v in vectors(system.m, system.n) {
+        if let Some(j) = v.iter().position(|&x| x != 0) {
+            if steps[j].is_none() && homogeneous.solved_by(&v) {
+                steps[j] = Some(v);
+            }
+        }
+    }
+    Some(Answer { start, steps: steps.into_iter().flatten().collect() })
+}
+
+/// The question that turns a call of milebadger_solve away, where there is one: "m in 2..4,294,967,295? 2. n 1..16? 3. Lines a
+/// multiple of n+1 long? 1. At most 16 lines? 5. All numbers below m? 6."
+pub fn solve_refusal(m: u32, n: u32, lines: &[u32]) -> Option<u32> {
+    let questions = [
+        (2, m >= 2),
+        (3, (1..=16).contains(&n)),
+        (1, lines.len() as u64 % (n as u64 + 1) == 0),
+        (5, lines.len() as u64 / (n as u64 + 1) <= 16),
+        (6, lines.iter().all(|&number| number < m)),
+    ];
+    questions.iter().find(|(_, yes)| !yes).map(|&(number, _)| number)
+}

@@ -1,5 +1,6 @@
 -- Multipliers that refute equations, said by for-all; and that refuted equations have no solution.
 --   Refutation        the equations so multiplied add up to 0 = a number that is not 0
+--   all-below         `allBelow` says that each number is below m
 --   refutes-is        `refutes` says that
 --   refuted-none      no vector solves them
 use mathlib.Core.Path.{_≡_, refl, ap, _∙_, sym}
@@ -38,7 +39,7 @@ remainder-zero m a = (
   λ c. eqb-of (a % m) 0 (c .same ∙ zero-mod m),
 )
 
-all-below : (m : ℕ) (ks : List ℕ) → T (allBelow m ks) ↔ Below m ks
+pub all-below : (m : ℕ) (ks : List ℕ) → T (allBelow m ks) ↔ Below m ks
 all-below m [] = ((λ t. tt), λ b. tt)
 all-below m (k ∷ ks) = (
   (λ t. let b = both-of-and (ltb k m) (allBelow m ks) t in (ltb→lt k m (b .0), all-below m ks .0 (b .1))),

@@ -1,3 +1,4 @@
--- Laws of the replies in specs/, and of signed results.
+-- Laws of the questions and the replies in specs/, and of signed results.
+pub mod Questions
 pub mod Reply
 pub mod Signed

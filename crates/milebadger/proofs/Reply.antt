@@ -1,43 +1,63 @@
--- What a reply means for the result and the memory, case by case, and one turn of the loop that writes its numbers.
---   copy-turn         a store at place i makes the copied front one longer
+-- What a reply means for the result and the memory, case by case, and how a block is written.
+--   tail-length       how long the part of the memory behind a stored head is
+--   head-then         a head stored, and numbers copied into the part behind it
 --   gives-short       the memory is too short for the numbers: minus 8, and nothing written
 --   gives-written     it is long enough: the result, with the numbers at the front
 --   gives-nothing     no numbers to write: they always fit
 --   refuses-replied   a refusal writes nothing
 --   replied-on        a callee's result, returned as it came
-use mathlib.Core.Path.{_≡_, refl, _∙_}
-use mathlib.Core.List.{List, [], _++_}
-use Prim.Native.Nat.{ℕ, _+_, _≤_, _<_, _^_}
-use native.Mathlib.Nat.{zero-add}
+use mathlib.Core.Path.{_≡_, refl, ap, _∙_}
+use mathlib.Core.List.{List, [], _∷_, _++_, append-nil}
+use Prim.Native.Nat.{ℕ, _+_, _-_, _≤_, _<_, _^_}
 use native.Mathlib.Numerals.{add-one}
 use native.Mathlib.Omega.{arith}
 use borrow.Author.Tests.{le-leb, lt-leb}
 use lib.IntN.{ℤ, pos, negsuc, negℤ}
-use lib.ListN.{length, take, drop, getD, set}
-use lib.Seq.{paste-suc, take-length}
+use lib.ListN.{length, take, drop, set, length-drop}
+use lib.Seq.{take-length, drop-length}
 use lib.Signed.{mag}
 use mir.Val.{toZ, ofZ}
 use mir.ValLaws.{toZ-pos}
 use mir.Syntax.{w64}
 use Rattle.milebadger.proofs.Signed.{handed-on}
-use Rattle.milebadger.specs.Reply.{Reply, gives, refuses, resultOf, memoryAfter, Replied}
+use Rattle.milebadger.specs.Reply.{Reply, gives, refuses, over, resultOf, memoryAfter, Replied}
 
-pub copy-turn : (d s : List ℕ) (i : ℕ) → i < length d → i < length s
-    → set (take i s ++ drop i d) i (getD s i 0) ≡ take (i + 1) s ++ drop (i + 1) d
-copy-turn d s i hd hs = rw add-one (simp zero-add at (paste-suc d 0 s i 0 (omega arith) hs))
+-- the part of a list behind its first element, as it is lent, and the list with another part p in its place
+abbrev pub tailOf : List ℕ → List ℕ
+tailOf s = take (length s - 1) (drop 1 s)
+
+abbrev pub putTail : List ℕ → List ℕ → List ℕ
+putTail s p = take 1 s ++ (p ++ drop (length s - 1) (drop 1 s))
+
+module _ (x : ℕ) (s : List ℕ) where
+  tail-is : tailOf (x ∷ s) ≡ s
+  tail-is = rw (← length-drop 1 (x ∷ s)) (take-length s)
+
+  put-tail-is : (p : List ℕ) → putTail (x ∷ s) p ≡ x ∷ p
+  put-tail-is p = rw (← length-drop 1 (x ∷ s), drop-length s) (ap (λ (z : List ℕ). x ∷ z) (append-nil p))
+
+module _ (head : ℕ) where
+  pub tail-length : (old : List ℕ) → 0 < length old → length (tailOf (set old 0 head)) + 1 ≡ length old
+  tail-length [] some = absurd (omega arith)
+  tail-length (x ∷ old) some = rw (tail-is head old, add-one)
+
+  pub head-then : (xs old part : List ℕ) → 0 < length old → part ≡ over xs (tailOf (set old 0 head))
+      → putTail (set old 0 head) part ≡ over (head ∷ xs) old
+  head-then xs [] part some is = absurd (omega arith)
+  head-then xs (x ∷ old) part some is =
+      put-tail-is head old part ∙ ap (λ (z : List ℕ). head ∷ z) (is ∙ ap (over xs) (tail-is head old))
 
 module _ (k : ℕ) (xs old : List ℕ) where
   pub gives-short : length old < length xs → Replied (gives k xs) old old (negsuc 7)
   unfolding resultOf memoryAfter
   gives-short h = let no = lt-leb (length xs) (length old) h in record { result = rw no; memory = rw no }
 
-  pub gives-written : length xs ≤ length old → k < 2 ^ 32
-      → (i : ℕ) → i ≡ length xs → (new : List ℕ) → new ≡ take i xs ++ drop i old
-      → Replied (gives k xs) old new (toZ w64 k)
+  pub gives-written : {new : List ℕ} (r : ℕ) → r ≡ k → r < 2 ^ 63 → length xs ≤ length old → new ≡ over xs old
+      → Replied (gives k xs) old new (toZ w64 r)
   unfolding resultOf memoryAfter
-  gives-written h small i e new is =
+  gives-written r e small h is =
       let yes = le-leb (length xs) (length old) h in
-      record { result = rw yes (toZ-pos w64 k (omega arith)); memory = rw yes (is ∙ simp (e, take-length)) }
+      record { result = rw yes (toZ-pos w64 r (omega arith) ∙ ap pos e); memory = rw yes is }
 
 pub gives-nothing : {k : ℕ} {old : List ℕ} → Replied (gives k []) old old (pos k)
 unfolding resultOf memoryAfter

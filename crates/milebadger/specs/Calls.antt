@@ -1,10 +1,17 @@
 -- What each call of the C face has to say. Definitions only.
-use Prim.Native.Nat.{ℕ}
-use mathlib.Core.List.{[], _∷_}
+use Prim.Native.Nat.{ℕ, _+_, _/_, _%_}
+use mathlib.Core.Bool.{cond, _&&_}
+use mathlib.Core.List.{List, [], _∷_}
+use lib.Dec.{eqb, leb}
+use lib.ListN.{length}
 use Rattle.residue.specs.Chain.{chainOf}
 use Rattle.residue.specs.Congruence.{congruenceOf}
+use Rattle.residue.specs.Questions.{Question, asks, firstNo}
 use Rattle.residue.specs.declared.congruence.Solved.{Solved}
 use Rattle.residue.specs.declared.congruence.Solved.the-variants.{Refused, NoSolution, Solutions}
+use Rattle.equations.specs.Lines.{equationsOf}
+use Rattle.equations.specs.Multipliers.{allBelow}
+use Rattle.system.specs.Block.{blockOf}
 use Rattle.milebadger.specs.Reply.{Reply, gives, refuses}
 
 -- 1, and the divisor with the number of divisions
@@ -19,3 +26,30 @@ solvedReply (Solutions t spacing) = gives 1 (t ∷ spacing ∷ [])
 
 abbrev pub congruenceReply : ℕ → ℕ → ℕ → Reply
 congruenceReply a b m = solvedReply (congruenceOf a b m)
+
+-- the largest modulus of a system: any that 32 bits hold
+abbrev pub largestNumber : ℕ
+largestNumber = 4294967295
+
+-- "m in 2..4,294,967,295? 2. n 1..16? 3. `lines` a multiple of n+1 long? 1. At most 16 lines? 5. All numbers below m? 6."
+abbrev pub solveQuestions : ℕ → ℕ → List ℕ → List Question
+solveQuestions m n xs =
+    asks 2 (leb 2 m && leb m largestNumber)
+    ∷ asks 3 (leb 1 n && leb n 16)
+    ∷ asks 1 (eqb (length xs % (n + 1)) 0)
+    ∷ asks 5 (leb (length xs / (n + 1)) 16)
+    ∷ asks 6 (allBelow m xs)
+    ∷ []
+
+-- "its result is the numbers written": a block, and how many numbers it has
+abbrev pub blockReply : List ℕ → Reply
+blockReply block = gives (length block) block
+
+-- a question's number where one turns the call away, and else its reply
+abbrev pub unlessRefused : ℕ → Reply → Reply
+unlessRefused number reply = cond (eqb number 0) reply (refuses number)
+
+-- the answer block of the equations in xs, or the refusal
+unfoldable pub solveReply : ℕ → ℕ → List ℕ → Reply
+solveReply m n xs =
+    unlessRefused (firstNo (solveQuestions m n xs)) (blockReply (blockOf m n (equationsOf n xs)))

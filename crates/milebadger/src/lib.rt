@@ -1,13 +1,17 @@
 // The C face: every call that a C program can make, thin over the crates that do the work.
+mod asking;
 mod replying;
 
 ghost use Rattle.milebadger.specs.Reply.{Replied};
-ghost use Rattle.milebadger.specs.Calls.{gcdReply, congruenceReply};
+ghost use Rattle.milebadger.specs.Calls.{gcdReply, congruenceReply, solveReply};
+use asking::refusal;
 use replying::give;
+use replying::give_block;
 use replying::refuse;
 use residue::congruence::Solved;
-use residue::congruence::solve;
+use residue::congruence::solve as solve_one;
 use residue::euclid::gcd;
+use system::solving::solve;
 
 // Euclid's chain: the divisor of a and b and the number of divisions made.
 #[no_mangle]
@@ -24,7 +28,7 @@ pub extern "C" fn milebadger_gcd(a: u32, b: u32, out: &mut [u32]) -> i64
 pub extern "C" fn milebadger_congruence(a: u32, b: u32, m: u32, out: &mut [u32]) -> i64
     ensures { λ r. ⌜ Replied (congruenceReply a b m) (now (out .entry)) (now (out .exit)) r ⌝ }
 {
-    let solved = solve(a, b, m);
+    let solved = solve_one(a, b, m);
     match solved {
         Solved::Refused(number) => refuse(number),
         Solved::NoSolution => 0,
@@ -33,4 +37,18 @@ pub extern "C" fn milebadger_congruence(a: u32, b: u32, m: u32, out: &mut [u32])
             give(1, &numbers, out)
         }
     }
+}
+
+// A list of equations in n unknowns mod m, each a line of n coefficients and a right side: its answer block.
+#[no_mangle]
+pub extern "C" fn milebadger_solve(m: u32, n: u32, lines: &[u32], out: &mut [u32]) -> i64
+    ensures { λ r. ⌜ Replied (solveReply m n (now (lines .entry))) (now (out .entry)) (now (out .exit)) r ⌝ }
+{
+    let number = refusal(m, n, lines);
+    if number != 0 {
+        return refuse(number);
+    }
+    let answer = solve(m, n as usize, lines);
+    let numbers = answer.numbers;
+    give_block(answer.head, &numbers[..answer.len], out)
 }

@@ -1,22 +1,37 @@
 // How an answer goes back to C: a signed result, and numbers in the memory that the caller lent.
 // Nothing else writes there.
 ghost use mathlib.Core.Path.{_≡_};
+ghost use mathlib.Core.List.{_∷_};
 ghost use lib.IntN.{pos, negℤ};
 ghost use Rattle.milebadger.specs.Reply.{gives, Replied};
+ghost use Rattle.milebadger.specs.Calls.{blockReply};
+use system::copying::copy;
+
+// The result where the memory is too short for the numbers: "Buffer long enough for this block? 8".
+const TOO_SHORT: i64 = -8;
 
 // The result, with its numbers written; or minus 8, with nothing written, where the memory is too short for them.
 pub(crate) fn give(result: u32, numbers: &[u32], out: &mut [u32]) -> i64
     ensures { λ r. ⌜ Replied (gives result (now (numbers .entry))) (now (out .entry)) (now (out .exit)) r ⌝ }
 {
     if out.len() < numbers.len() {
-        return -8;
+        return TOO_SHORT;
     }
-    let mut i: usize = 0;
-    while i < numbers.len() {
-        out[i] = numbers[i];
-        i += 1;
-    }
+    copy(numbers, out);
     result as i64
+}
+
+// The same for a block, whose result is its length: the head, and its numbers in the part of the memory behind it.
+pub(crate) fn give_block(head: u32, numbers: &[u32], out: &mut [u32]) -> i64
+    ensures { λ r. ⌜ Replied (blockReply (head ∷ now (numbers .entry))) (now (out .entry)) (now (out .exit)) r ⌝ }
+{
+    if out.len() <= numbers.len() {
+        return TOO_SHORT;
+    }
+    out[0] = head;
+    copy(numbers, &mut out[1..]);
+    let written = numbers.len() + 1;
+    written as i64
 }
 
 // Minus the number of a refusal.
