@@ -1,4 +1,5 @@
-/* A small workbench: it asks for a divisor and for the solutions of some congruences, and prints what it is told. */
+/* A small workbench: it asks for a divisor, for the solutions of some congruences and of some lists of equations, and prints
+ * what it is told. */
 #include <inttypes.h>
 #include <stdio.h>
 
@@ -30,6 +31,34 @@ static void show_solutions(uint32_t a, uint32_t b, uint32_t m)
     }
 }
 
+static void show_numbers(const char *word, const uint32_t *numbers, size_t count)
+{
+    printf("  %s", word);
+    for (size_t i = 0; i < count; i++)
+        printf(" %" PRIu32, numbers[i]);
+    printf("\n");
+}
+
+/* The answer to two equations in two unknowns, by milebadger_solve: where the solutions start and the steps that lead to all of
+ * them, or multipliers under which the equations contradict each other. */
+static void show_answer(uint32_t m, const uint32_t lines[6])
+{
+    uint32_t block[MILEBADGER_LONGEST_BLOCK];
+    int64_t result = milebadger_solve(m, 2, lines, 6, block, MILEBADGER_LONGEST_BLOCK);
+
+    for (const uint32_t *e = lines; e < lines + 6; e += 3)
+        printf("%" PRIu32 " x + %" PRIu32 " y = %" PRIu32 "%s", e[0], e[1], e[2], e == lines ? ", " : " ");
+    printf("mod %" PRIu32 ":\n", m);
+    if (result < 0) {
+        printf("  refused %" PRId64 "\n", -result);
+    } else if (block[0] == 0) {
+        show_numbers("none, by the multipliers", block + 1, 2);
+    } else {
+        for (uint32_t i = 0; i < block[0]; i++)
+            show_numbers(i == 0 ? "from" : "step", block + 1 + 2 * i, 2);
+    }
+}
+
 int main(void)
 {
     show_divisor(1071, 462);
@@ -41,5 +70,9 @@ int main(void)
 
     show_solutions(5, 1, 65536);
     show_solutions(12, 1, 12);
+
+    show_answer(12, (const uint32_t[]){2, 3, 5, 4, 6, 10});
+    show_answer(2, (const uint32_t[]){1, 1, 1, 1, 1, 0});
+    show_answer(12, (const uint32_t[]){2, 3, 5, 4, 6, 12});
     return 0;
 }
