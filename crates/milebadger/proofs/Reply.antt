@@ -1,51 +1,23 @@
--- What a reply means for the result and the memory, case by case, and how a block is written.
---   tail-length       how long the part of the memory behind a stored head is
---   head-then         a head stored, and numbers copied into the part behind it
+-- What a reply means for the result and the memory, case by case.
 --   gives-short       the memory is too short for the numbers: minus 8, and nothing written
 --   gives-written     it is long enough: the result, with the numbers at the front
 --   gives-nothing     no numbers to write: they always fit
 --   refuses-replied   a refusal writes nothing
 --   replied-on        a callee's result, returned as it came
 use mathlib.Core.Path.{_≡_, refl, ap, _∙_}
-use mathlib.Core.List.{List, [], _∷_, _++_, append-nil}
-use Prim.Native.Nat.{ℕ, _+_, _-_, _≤_, _<_, _^_}
-use native.Mathlib.Numerals.{add-one}
+use mathlib.Core.List.{List, []}
+use Prim.Native.Nat.{ℕ, _≤_, _<_, _^_}
 use native.Mathlib.Omega.{arith}
 use borrow.Author.Tests.{le-leb, lt-leb}
 use lib.IntN.{ℤ, pos, negsuc, negℤ}
-use lib.ListN.{length, take, drop, set, length-drop}
-use lib.Seq.{take-length, drop-length}
+use lib.ListN.{length}
 use lib.Signed.{mag}
 use mir.Val.{toZ, ofZ}
 use mir.ValLaws.{toZ-pos}
 use mir.Syntax.{w64}
+use Rattle.slices.specs.Over.{over}
 use Rattle.milebadger.proofs.Signed.{handed-on}
-use Rattle.milebadger.specs.Reply.{Reply, gives, refuses, over, resultOf, memoryAfter, Replied}
-
--- the part of a list behind its first element, as it is lent, and the list with another part p in its place
-abbrev pub tailOf : List ℕ → List ℕ
-tailOf s = take (length s - 1) (drop 1 s)
-
-abbrev pub putTail : List ℕ → List ℕ → List ℕ
-putTail s p = take 1 s ++ (p ++ drop (length s - 1) (drop 1 s))
-
-module _ (x : ℕ) (s : List ℕ) where
-  tail-is : tailOf (x ∷ s) ≡ s
-  tail-is = rw (← length-drop 1 (x ∷ s)) (take-length s)
-
-  put-tail-is : (p : List ℕ) → putTail (x ∷ s) p ≡ x ∷ p
-  put-tail-is p = rw (← length-drop 1 (x ∷ s), drop-length s) (ap (λ (z : List ℕ). x ∷ z) (append-nil p))
-
-module _ (head : ℕ) where
-  pub tail-length : (old : List ℕ) → 0 < length old → length (tailOf (set old 0 head)) + 1 ≡ length old
-  tail-length [] some = absurd (omega arith)
-  tail-length (x ∷ old) some = rw (tail-is head old, add-one)
-
-  pub head-then : (xs old part : List ℕ) → 0 < length old → part ≡ over xs (tailOf (set old 0 head))
-      → putTail (set old 0 head) part ≡ over (head ∷ xs) old
-  head-then xs [] part some is = absurd (omega arith)
-  head-then xs (x ∷ old) part some is =
-      put-tail-is head old part ∙ ap (λ (z : List ℕ). head ∷ z) (is ∙ ap (over xs) (tail-is head old))
+use Rattle.milebadger.specs.Reply.{Reply, gives, refuses, resultOf, memoryAfter, Replied}
 
 module _ (k : ℕ) (xs old : List ℕ) where
   pub gives-short : length old < length xs → Replied (gives k xs) old old (negsuc 7)

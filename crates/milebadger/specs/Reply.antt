@@ -3,19 +3,16 @@
 use mathlib.Core.Path.{_≡_}
 use Prim.Native.Nat.{ℕ}
 use mathlib.Core.Bool.{cond}
-use mathlib.Core.List.{List, _++_}
+use mathlib.Core.List.{List}
 use lib.Dec.{leb}
 use lib.IntN.{ℤ, pos, negℤ}
-use lib.ListN.{length, drop}
+use lib.ListN.{length}
+use Rattle.slices.specs.Over.{over}
 
 -- what a call has to say: a result with the numbers that go to the memory, or a refusal with its number
 pub data Reply : Type 0 where
   gives : ℕ → List ℕ → Reply
   refuses : ℕ → Reply
-
--- the numbers at the front, and what lies past them kept
-abbrev pub over : List ℕ → List ℕ → List ℕ
-over xs old = xs ++ drop (length xs) old
 
 -- what the call returns, where the lent memory holds `old`: the result, or minus 8 where its numbers do not fit, or
 -- minus the refusal's number

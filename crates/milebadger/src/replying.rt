@@ -5,7 +5,7 @@ ghost use mathlib.Core.List.{_∷_};
 ghost use lib.IntN.{pos, negℤ};
 ghost use Rattle.milebadger.specs.Reply.{gives, Replied};
 ghost use Rattle.milebadger.specs.Calls.{blockReply};
-use system::copying::copy;
+use slices::copying::copy;
 
 // The result where the memory is too short for the numbers: "Buffer long enough for this block? 8".
 const TOO_SHORT: i64 = -8;

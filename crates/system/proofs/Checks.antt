@@ -11,10 +11,10 @@ use Prim.Native.Nat.{ℕ, _+_, _%_, _<_, _≤_}
 use lib.ListN.{length, take, drop, getD}
 use lib.Dec.{eqb}
 use borrow.Author.Tests.{eq-eqb, ne-eqb}
+use Rattle.slices.proofs.Parts.{lent, lent-is}
 use Rattle.equations.specs.Lists.{every}
 use Rattle.equations.specs.Equation.{Equation, dot, solves, homogeneous}
 use Rattle.equations.specs.Lines.{equationAt, equationsOf}
-use Rattle.tableau.proofs.Parts.{lent, lent-is}
 use Rattle.system.specs.Claims.{vectorsOf}
 use Rattle.tableau.proofs.Lines.{equations-none, equations-more}
 use Rattle.system.proofs.Chunks.{vectors-cons, vectors-none}

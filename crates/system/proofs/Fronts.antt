@@ -11,8 +11,9 @@ use mathlib.Core.List.{List, _++_}
 use Prim.Native.Nat.{ℕ, _+_, _≤_}
 use native.Mathlib.Nat.{add-zero}
 use native.Mathlib.Omega.{arith}
-use lib.ListN.{length, take, drop, replicate, length-append}
+use lib.ListN.{length, take, drop, replicate}
 use lib.Seq.{take-at, length-take-le}
+use Rattle.slices.proofs.Parts.{joined-fit, relent-length}
 use Rattle.tableau.specs.Packed.{rows, triangle}
 use Rattle.system.proofs.Rows.{triangle-mono}
 
@@ -28,18 +29,18 @@ module _ (w size : ℕ) (few : w ≤ 17) (is : size ≡ triangle w w) where
   front-length = length-take-le size cleared front-within ∙ is
 
   module _ (p : List ℕ) (e : length p ≡ length (take size cleared)) where
-    again : take size (p ++ drop size cleared) ≡ p
-    again = take-at p (drop size cleared) size (e ∙ length-take-le size cleared front-within)
+    whole : length p ≡ size
+    whole = e ∙ length-take-le size cleared front-within
 
     pub front-size : length (take size (p ++ drop size cleared)) ≡ triangle w w
-    front-size = ap length again ∙ e ∙ front-length
+    front-size = relent-length size cleared p whole ∙ is
 
     pub front-fits : size ≤ length (p ++ drop size cleared)
-    front-fits = omega (arith, length-append p (drop size cleared), e, front-length, is)
+    front-fits = joined-fit size cleared p whole
 
     pub front-read : {A : Type 0} (f : List (List ℕ) → A) (x : A) (l : ℕ) (B : List (List ℕ)) → rows w l p ≡ B
         → x ≡ f (rows w l (take size (p ++ drop size cleared))) → x ≡ f B
-    front-read f x l B g h = h ∙ ap f (ap (rows w l) again ∙ g)
+    front-read f x l B g h = h ∙ ap f (ap (rows w l) (take-at p (drop size cleared) size whole) ∙ g)
 
 pub rows-alone : (w l : ℕ) (s : List ℕ) (B : List (List ℕ)) → rows w (l + 0) s ≡ B → rows w l s ≡ B
 rows-alone w l s B g = ap (λ (i : ℕ). rows w i s) (sym (add-zero l)) ∙ g

@@ -3,16 +3,17 @@
 --   laid-cons                       a vector in front of others
 --   Left                            what is written and what is left, before a column's turn
 --   left-all, left-less, left-none  before the first column, from one to the next, behind the last
---   room, few, lent                 there is place for a step more, and how long this place is
+--   room, few, room-length          there is place for a step more, and how long this place is
 use mathlib.Core.Path.{_≡_, refl, sym, ap, _∙_}
 use mathlib.Core.List.{List, [], _∷_, _++_, append-nil, append-assoc, flatten}
 use mathlib.Core.Option.{Option, none, some}
 use Prim.Native.Nat.{ℕ, zero, suc, _+_, _-_, _*_, _/_, _<_, _≤_}
 use native.Mathlib.Nat.{zero-mul, one-mul, mul-le-mul}
 use native.Mathlib.Omega.{arith}
-use lib.ListN.{length, take, drop, length-drop}
+use lib.ListN.{length, take, drop}
 use lib.Seq.{take-all, take-append-le, take-append-add, length-take-le}
 use borrow.Author.Tests.{eq-eqb, ne-eqb}
+use borrow.Rule.Slice.PartMut.{mid-len}
 use Rattle.equations.specs.Answer.{andThen}
 use Rattle.elimination.specs.Basis.{pivot}
 use Rattle.system.specs.Reading.{Laid, readVector, readStep, readSteps}
@@ -114,8 +115,6 @@ room n c i h g = omega (arith, mul-le-mul {n₁ = c + 1} {m₁ = n} {n₂ = n} {
 pub few : (n : ℕ) → n ≤ 16 → n * n ≤ 256
 few n h = mul-le-mul {n₁ = n} {m₁ = n} {n₂ = 16} {m₂ = 16} h h
 
-pub lent : (n c i : ℕ) (out : List ℕ) → c + i ≤ n → 0 < i → n * n ≤ length out
+pub room-length : (n c i : ℕ) (out : List ℕ) → c + i ≤ n → 0 < i → n * n ≤ length out
     → length (take (c * n + n - c * n) (drop (c * n) out)) ≡ n
-lent n c i out h g e =
-    let k : c * n + n - c * n ≡ n = omega arith in
-    rw k (length-take-le n (drop (c * n) out) (omega (arith, length-drop (c * n) out, room n c i h g)))
+room-length n c i out h g e = mid-len (c * n) (c * n + n) out (omega (arith, room n c i h g)) ∙ omega arith

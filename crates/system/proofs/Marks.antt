@@ -14,6 +14,7 @@ use lib.ListN.{length, take}
 use lib.Seq.{length-take-le}
 use lib.Dec.{eqb}
 use borrow.Author.Tests.{eqb-true, eqb-false}
+use Rattle.slices.proofs.Parts.{lent, lent-is}
 use Rattle.equations.specs.Lists.{every}
 use Rattle.equations.specs.Equation.{Equation, solves, homogeneous}
 use Rattle.equations.specs.Claim.{noSolution, from, passes}
@@ -25,7 +26,6 @@ use Rattle.elimination.specs.Marking.{agree, claimRight}
 use Rattle.elimination.proofs.Marking.{marking, marking-none}
 use Rattle.equations.specs.Lines.{equationsOf}
 use Rattle.tableau.proofs.Lines.{below-take}
-use Rattle.tableau.proofs.Parts.{lent, lent-is}
 use Rattle.system.specs.Posed.{Posed}
 use Rattle.system.specs.Claims.{Claimed, claimOf, vectorsOf}
 use Rattle.system.proofs.Lines.{equations-shaped}

@@ -3,21 +3,18 @@
 --   spanned-start   no step is put in
 --   spanned-next    the first of the rest is put in
 --   spanned-end     no step is left
---   below-lent      a part of a list of residues
---   line-is         the copy of a step is lent to the insertion
 --   insert-asks, insert-gives   what the insertion asks and gives, said of the step
 use mathlib.Core.Path.{_≡_, sym, ap, ap₂, _∙_, subst}
-use mathlib.Core.List.{List, _++_}
+use mathlib.Core.List.{List}
 use Prim.Native.Nat.{ℕ, _+_, _<_, _≤_}
 use native.Mathlib.Nat.{add-zero}
 use native.Mathlib.Omega.{arith}
 use lib.ListN.{length, take}
-use lib.Seq.{take-at}
+use Rattle.slices.proofs.Parts.{lent, lent-is}
 use Rattle.equations.specs.Vectors.{Below}
 use Rattle.elimination.specs.Basis.{insert, inserts, empty, basis}
 use Rattle.tableau.specs.Packed.{rows, triangle, Kept}
-use Rattle.tableau.proofs.Parts.{lent, lent-is}
-use Rattle.tableau.proofs.Combined.{below-drop}
+use Rattle.tableau.proofs.Lines.{below-lent}
 use Rattle.tableau.proofs.Built.{kept-empty}
 use Rattle.system.specs.Claims.{vectorsOf}
 use Rattle.system.proofs.Chunks.{vectors-cons, vectors-none}
@@ -28,13 +25,7 @@ pub record Spanned (m n : ℕ) (all b rest : List ℕ) : Type 0 where
   pub below : Below m rest
   pub same : inserts m (rows n n b) (vectorsOf n rest) ≡ basis m n 0 (vectorsOf n all)
 
-pub below-lent : (m n : ℕ) (s : List ℕ) → Below m s → Below m (lent n s)
-below-lent m n s h = subst (Below m) (sym (lent-is n s)) (below-drop m n s h)
-
--- the line that is lent to the insertion: the front of an array into which the step was copied
-pub line-is : (n : ℕ) (line step rest : List ℕ) → line ≡ step ++ rest → length step ≡ n → take n line ≡ step
-line-is n line step rest e h = ap (take n) e ∙ take-at step rest n h
-
+-- the line is what is lent to the insertion: the front of an array into which the step was copied
 module _ (m n : ℕ) (line step : List ℕ) (e : line ≡ step) (h : length step ≡ n) where
   same-length : n ≡ length line
   same-length = sym (ap length e ∙ h)

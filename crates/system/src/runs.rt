@@ -8,9 +8,9 @@ ghost use Rattle.equations.specs.Lines.{equationsOf};
 ghost use Rattle.tableau.specs.Packed.{triangle};
 ghost use Rattle.system.specs.Posed.{Posed};
 ghost use Rattle.system.specs.Reading.{Laid, answerVectors};
-use crate::copying::copy;
 use crate::reading::pivot_at;
 use crate::reading::vectors_into;
+use slices::copying::copy;
 use tableau::building::build;
 
 // Starting vector and steps into out; their number, which is 0 where there is no solution.

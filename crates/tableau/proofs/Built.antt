@@ -1,13 +1,14 @@
 -- A tableau that is built equation by equation: what is inserted already, with the equations that are left, is the whole.
 --   kept-empty                          a basis of no equation keeps to what every basis does
 --   Built, built-start, -next, -end     before the first equation, one more, after the last one
-use mathlib.Core.Path.{_≡_, sym, ap, ap₂, _∙_, subst}
+use mathlib.Core.Path.{_≡_, sym, ap, ap₂, _∙_}
 use mathlib.Core.List.{List}
 use Prim.Native.Nat.{ℕ, zero, suc, _+_, _≤_, _<_}
 use native.Mathlib.Numerals.{add-one}
 use native.Mathlib.Nat.{le-refl}
 use native.Mathlib.Omega.{arith}
 use lib.ListN.{length, take, drop}
+use Rattle.slices.proofs.Parts.{lent, lent-is, lent-length}
 use Rattle.equations.specs.Equation.{Equation}
 use Rattle.equations.specs.Vectors.{Below}
 use Rattle.elimination.specs.Basis.{insert, inserts, empty, basis}
@@ -15,9 +16,7 @@ use Rattle.elimination.specs.Tableau.{unit, line, lines, tableau}
 use Rattle.elimination.proofs.Residues.{below-zeros}
 use Rattle.tableau.specs.Packed.{rows, triangle, Kept}
 use Rattle.equations.specs.Lines.{equationAt, equationsOf}
-use Rattle.tableau.proofs.Parts.{lent, lent-is, lent-length}
-use Rattle.tableau.proofs.Combined.{below-drop}
-use Rattle.tableau.proofs.Lines.{equation-front, equations-none, equations-more}
+use Rattle.tableau.proofs.Lines.{below-lent, equation-front, equations-none, equations-more}
 
 pub kept-empty : (m k w : ℕ) → 0 < m → Kept m (empty m k w)
 kept-empty m k zero h = tt
@@ -50,7 +49,7 @@ module _ (m n k : ℕ) (all : List ℕ) where
   built-next b rest c i B h size e kept = record {
     passed = omega (arith, lent-length (n + 1) rest, B .passed);
     size = size ∙ B .size;
-    below = subst (Below m) (sym (lent-is (n + 1) rest)) (below-drop m (n + 1) rest (B .below));
+    below = below-lent m (n + 1) rest (B .below);
     kept = kept;
     same =
         ap₂ (λ (C : List (List ℕ)) (es : List Equation). inserts m C (lines m k (i + 1) es))

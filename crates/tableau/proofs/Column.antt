@@ -24,7 +24,7 @@ use Rattle.elimination.specs.Step.{stepOf}
 use Rattle.elimination.specs.Basis.{insert}
 use Rattle.tableau.specs.Packed.{RowKept}
 use Rattle.tableau.specs.Column.{Inserted}
-use Rattle.tableau.proofs.Parts.{lent, putBack, lent-is, put-back-is}
+use Rattle.slices.proofs.Parts.{lent, putBack, lent-is, put-back-is}
 
 pub row-head : (m : ℕ) (R : List ℕ) → 0 < length R → RowKept m R → (0 < getD R 0 0) × (getD R 0 0 ≤ m)
 row-head m [] h k = absurd (omega arith)

@@ -19,7 +19,7 @@ use Rattle.equations.specs.Equation.{dot}
 use Rattle.equations.specs.Vectors.{Below}
 use Rattle.elimination.specs.Substitution.{place, fit, extend}
 use Rattle.tableau.specs.Packed.{rows, triangle, Kept}
-use Rattle.tableau.proofs.Parts.{lent, putBack, lent-is, lent-length, put-back-is}
+use Rattle.slices.proofs.Parts.{lent, putBack, lent-is, lent-length, put-back-is}
 use Rattle.tableau.proofs.Packed.{rows-split, triangle-front, triangle-behind}
 use Rattle.tableau.proofs.Column.{row-head}
 use Rattle.tableau.proofs.Walk.{kept-front, kept-behind}

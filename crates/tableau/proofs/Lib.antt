@@ -1,7 +1,6 @@
 -- Laws that the proofs of this crate's functions cite.
 pub mod Combined
 pub mod Stores
-pub mod Parts
 pub mod Packed
 pub mod Column
 pub mod Walk

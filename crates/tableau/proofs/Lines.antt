@@ -1,5 +1,5 @@
 -- Lines of equations, and the lists of numbers that hold them.
---   below-take, below-unit              residues
+--   below-take, below-lent, below-unit  residues
 --   turned-append, turned-reverse       a vector turned round, in front of other numbers
 --   load-length, load-is, load-below    the parts of a line put together: the unknowns T, the constant v, the carried columns U
 --   equations-none, equations-more      a list of numbers without a whole line, and with one
@@ -7,11 +7,12 @@
 use mathlib.Core.Path.{_≡_, refl, sym, ap, ap₂, _∙_, subst}
 use mathlib.Core.List.{List, [], _∷_, _++_, append-assoc, reverseAux}
 use Prim.Native.Nat.{ℕ, zero, suc, _+_, _/_, _%_, _≤_, _<_}
-use native.Mathlib.Nat.{div-eq-of-lt, div-eq-sub-div, mod-lt}
+use native.Mathlib.Nat.{div-eq-of-lt, mod-lt}
 use native.Mathlib.Numerals.{add-one}
 use native.Mathlib.Omega.{arith}
 use lib.ListN.{length, take, drop, getD, set, length-append, length-drop, length-set}
 use lib.Seq.{take-at, take-take, getD-take, drop-cons, set-at, append-snoc}
+use Rattle.slices.proofs.Parts.{lent, putBack, lent-is, lent-length, put-back-is, parts-suc}
 use Rattle.residue.specs.Negative.{negative}
 use Rattle.equations.specs.Equation.{Equation}
 use Rattle.equations.specs.Vectors.{Below}
@@ -19,12 +20,15 @@ use Rattle.elimination.specs.Tableau.{line, unit, turned}
 use Rattle.elimination.proofs.Residues.{below-zeros}
 use Rattle.elimination.proofs.Turned.{below-turned}
 use Rattle.equations.specs.Lines.{equationAt, equationsWithin, equationsOf}
-use Rattle.tableau.proofs.Parts.{lent, putBack, lent-length, put-back-is}
+use Rattle.tableau.proofs.Combined.{below-drop}
 
 pub below-take : (m i : ℕ) (v : List ℕ) → Below m v → Below m (take i v)
 below-take m zero v h = tt
 below-take m (suc i) [] h = tt
 below-take m (suc i) (x ∷ v) h = (h .0, below-take m i v (h .1))
+
+pub below-lent : (m i : ℕ) (v : List ℕ) → Below m v → Below m (lent i v)
+below-lent m i v h = subst (Below m) (sym (lent-is i v)) (below-drop m i v h)
 
 pub below-unit : (m k i : ℕ) → 1 < m → Below m (unit k i)
 below-unit m zero i h = tt
@@ -92,5 +96,5 @@ pub equations-more : (n : ℕ) (s : List ℕ) → n < length s → equationsOf n
 unfolding equationsOf
 equations-more n s h =
     ap (λ (c : ℕ). equationsWithin c n s)
-    (div-eq-sub-div (omega arith) (omega arith) ∙ add-one _ ∙ ap (λ (j : ℕ). suc (j / suc n)) (sym (length-drop (suc n) s)))
+    (parts-suc (suc n) s (omega arith) (omega arith))
     ∙ ap (λ (j : ℕ). equationAt n s ∷ equationsWithin (length (drop j s) / suc n) n (drop j s)) (sym (add-one n))

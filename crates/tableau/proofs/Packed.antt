@@ -8,11 +8,11 @@ use mathlib.Core.Path.{_≡_, refl, ap, ap₂, _∙_}
 use mathlib.Core.List.{List, _∷_, _++_}
 use Prim.Native.Nat.{ℕ, zero, suc, pred, _+_, _-_, _<_, _≤_}
 use native.Mathlib.Omega.{arith}
-use lib.ListN.{length, take, drop, replicate, length-append, length-drop}
+use lib.ListN.{length, take, drop, replicate, length-drop}
 use lib.Seq.{take-at, drop-at, length-take-le}
+use Rattle.slices.proofs.Parts.{lent, lent-behind}
 use Rattle.elimination.specs.Basis.{empty}
 use Rattle.tableau.specs.Packed.{rows, triangle}
-use Rattle.tableau.proofs.Parts.{lent, lent-behind}
 
 pub rows-split : (w l : ℕ) (s : List ℕ) → 0 < w → rows w l s ≡ take l s ∷ rows (w - 1) (l - 1) (drop l s)
 rows-split zero l s h = absurd (omega arith)
@@ -48,9 +48,6 @@ behind-length w l b r h g e =
 
 pub front-length : (w l : ℕ) (b : List ℕ) → 0 < w → length b ≡ triangle w l → length (take l b) ≡ l
 front-length w l b h g = length-take-le l b (rows-fit w l b h g)
-
-pub joined-fit : (l : ℕ) (b r : List ℕ) → length r ≡ l → l ≤ length (r ++ drop l b)
-joined-fit l b r e = omega (arith, length-append r (drop l b))
 
 -- the blank row r is one of w + k numbers, as the code has it
 pub clear-next : (m k w : ℕ) (r x : List ℕ) → 0 < w → length r ≡ w + k → r ≡ m ∷ replicate (w + k - 1) 0

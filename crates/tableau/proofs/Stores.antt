@@ -1,6 +1,5 @@
 -- Loops and stores that fill a list.
 --   turned-suc            one entry more, turned round
---   fill-end              a list filled from its front, at the end
 --   turn-start, turn-next, turn-end   a list filled from its end, an entry in each turn
 --   blank-store           zeros with a number stored in front
 --   unit-store            zeros with a 1 stored are a unit vector
@@ -10,19 +9,14 @@ use mathlib.Core.List.{List, [], _∷_, _++_, append-nil}
 use Prim.Native.Nat.{ℕ, zero, suc, _+_, _-_, _<_, _≤_}
 use native.Mathlib.Numerals.{add-one}
 use native.Mathlib.Omega.{arith}
-use lib.ListN.{length, take, drop, getD, set, replicate}
-use lib.Seq.{take-length, drop-length}
+use lib.ListN.{length, take, getD, set, replicate}
+use lib.Seq.{take-length}
 use Rattle.elimination.specs.Tableau.{turned, unit}
 
 pub turned-suc : (i : ℕ) (x acc : List ℕ) → i < length x → turned (suc i) x acc ≡ getD x i 0 ∷ turned i x acc
 turned-suc i [] acc h = absurd (omega arith)
 turned-suc zero (y ∷ x) acc h = refl
 turned-suc (suc i) (y ∷ x) acc h = turned-suc i x (y ∷ acc) (omega arith)
-
-pub fill-end : (i v : ℕ) (d out : List ℕ) → i ≡ length d → out ≡ replicate i v ++ drop i d → out ≡ replicate (length d) v
-fill-end i v d out h f =
-    f ∙ ap (λ (k : ℕ). replicate k v ++ drop k d) h
-    ∙ ap (λ (z : List ℕ). replicate (length d) v ++ z) (drop-length d) ∙ append-nil _
 
 -- a store right in front of what is filled
 store-front : (k v : ℕ) (d T : List ℕ) → k < length d → set (take (suc k) d ++ T) k v ≡ take k d ++ v ∷ T

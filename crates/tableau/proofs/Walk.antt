@@ -14,7 +14,7 @@ use Rattle.equations.specs.Vectors.{Below}
 use Rattle.elimination.specs.Basis.{insert}
 use Rattle.tableau.specs.Packed.{rows, triangle, RowKept, Kept}
 use Rattle.tableau.specs.Column.{Inserted}
-use Rattle.tableau.proofs.Parts.{lent, putBack, lent-is, lent-length, lent-behind, put-behind}
+use Rattle.slices.proofs.Parts.{lent, putBack, lent-is, lent-length, lent-behind, put-behind}
 use Rattle.tableau.proofs.Combined.{below-drop}
 use Rattle.tableau.proofs.Packed.{rows-split, rows-behind, behind-length}
 

@@ -10,9 +10,9 @@ ghost use Rattle.tableau.specs.Packed.{rows, triangle, Kept};
 ghost use Rattle.equations.specs.Lines.{equationAt, equationsOf};
 use crate::filling::turn;
 use crate::filling::unit_vector;
-use crate::filling::zeros;
 use crate::insertion::insert;
 use residue::modular::negate;
+use slices::filling::zeros;
 
 // A row with the pivot m: nothing there yet.
 fn blank(row: &mut [u32], m: u32)

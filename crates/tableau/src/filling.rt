@@ -1,19 +1,10 @@
-// Lists that do not depend on any row: zeros, a unit vector, a vector turned round.
+// Lists that do not depend on any row: a unit vector, a vector turned round.
 ghost use mathlib.Core.Path.{_≡_};
 ghost use mathlib.Core.List.{[]};
 ghost use Prim.Native.Nat.{_≤_};
-ghost use lib.ListN.{length, replicate};
+ghost use lib.ListN.{length};
 ghost use Rattle.elimination.specs.Tableau.{turned, unit};
-
-pub fn zeros(out: &mut [u32])
-    ensures { λ _. ⌜ now (out .exit) ≡ replicate (length (now (out .entry))) 0 ⌝ }
-{
-    let mut i = 0;
-    while i < out.len() {
-        out[i] = 0;
-        i += 1;
-    }
-}
+use slices::filling::zeros;
 
 // A 1 at place i, which may lie behind the end: then there is none.
 pub fn unit_vector(out: &mut [u32], i: usize)

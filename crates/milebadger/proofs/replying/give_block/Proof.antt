@@ -5,8 +5,10 @@ use Prim.Native.Nat.{_+_}
 use native.Mathlib.Omega.{arith}
 use borrow.Author.Needs.{needs}
 use denote.Ref.{now}
-use lib.ListN.{length, length-set}
-use Rattle.milebadger.proofs.Reply.{tail-length, head-then, gives-short, gives-written}
+use lib.ListN.{length, set, length-set}
+use Rattle.slices.proofs.Parts.{lent-length}
+use Rattle.slices.proofs.Over.{head-then}
+use Rattle.milebadger.proofs.Reply.{gives-short, gives-written}
 use Rattle.milebadger.proofs.replying.give_block.Statement.{statement}
 use Rattle.milebadger.proofs.replying.give_block.Tie as tie
 
@@ -31,7 +33,8 @@ part-copy-end c = search needs
 copy-requires : tie.Need-copy-requires
 copy-requires c κs =
     let at-start = c .before .before .before .before .args in
-    omega (arith, tail-length (at-start .head) (now (at-start .out)) (omega arith))
+    let stored = set (now (at-start .out)) 0 (at-start .head) in
+    omega (arith, lent-length 1 stored, length-set (now (at-start .out)) 0 (at-start .head))
 
 add-written : tie.Need-add-written
 add-written c = search needs
@@ -48,8 +51,8 @@ returns-2 c =
     let block = at-start .head ∷ now (at-start .numbers) in
     gives-written (length block) block (now (at-start .out)) (length (now (at-start .numbers)) + 1)
     (omega arith) (omega arith) (omega arith)
-    (head-then (at-start .head) (now (at-start .numbers)) (now (at-start .out)) (c .before .before .copy .last .1 .0)
-    (omega arith) (c .before .before .copy .ensures))
+    (head-then (at-start .head) (now (at-start .numbers)) (now (at-start .out)) (omega arith)
+    (c .before .before .copy .ensures))
 
 pub give-block-spec : {M : Type 1} → statement M
 give-block-spec =

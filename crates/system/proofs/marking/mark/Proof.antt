@@ -4,7 +4,7 @@ use native.Mathlib.Omega.{arith}
 use lib.Seq.{length-take-le}
 use borrow.Author.Tests.{not-true, not-false}
 use borrow.Author.Needs.{needs}
-use Rattle.system.proofs.Spans.{below-lent}
+use Rattle.tableau.proofs.Lines.{below-lent}
 use Rattle.system.proofs.Marks.{claim-front, marked-none, start-fails, steps-fail, marked-some}
 use Rattle.system.proofs.marking.mark.Statement.{statement}
 use Rattle.system.proofs.marking.mark.Tie as tie

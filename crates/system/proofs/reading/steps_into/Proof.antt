@@ -6,7 +6,7 @@ use native.Mathlib.Omega.{arith}
 use lib.ListN.{length, drop}
 use borrow.Author.Needs.{needs}
 use Rattle.system.specs.Reading.{rowsIn}
-use Rattle.system.proofs.Laid.{Left, left-all, left-less, left-none, room, few, lent}
+use Rattle.system.proofs.Laid.{Left, left-all, left-less, left-none, room, few, room-length}
 use Rattle.system.proofs.reading.steps_into.Statement.{statement}
 use Rattle.system.proofs.reading.steps_into.Tie as tie
 
@@ -65,7 +65,7 @@ step-into-requires c κs =
     let z = c .before .before .before .before .before in
     let n = z .args .n in (
       z .pre .0,
-      lent n (l .count) (l .i) (l .out) (l .inv .1 .places) (omega arith) (omega (arith, l .inv .0)),
+      room-length n (l .count) (l .i) (l .out) (l .inv .1 .places) (omega arith) (omega (arith, l .inv .0)),
       omega arith,
     )
 
@@ -86,7 +86,7 @@ loop-again c =
           (drop (l .count * a .n + a .n - l .count * a .n) (drop (l .count * a .n) (l .out)))
           (omega (arith, room (a .n) (l .count) (l .i) (l .inv .1 .places) (omega arith)))
           (s .kept .1 .0
-          ∙ lent (a .n) (l .count) (l .i) (l .out) (l .inv .1 .places) (omega arith) (omega (arith, l .inv .0)))
+          ∙ room-length (a .n) (l .count) (l .i) (l .out) (l .inv .1 .places) (omega arith) (omega (arith, l .inv .0)))
           (s .ensures .0) (a .m) (l .i) (rowsIn (a .n) (a .basis .now)) (omega arith) (s .ensures .1) (l .inv .1),
     )
 

@@ -3,9 +3,9 @@ use mathlib.Core.Path.{_≡_, sym, ap, _∙_}
 use mathlib.Core.List.{List, [], _++_}
 use Prim.Native.Nat.{ℕ, _+_, _≤_}
 use native.Mathlib.Omega.{arith}
-use lib.ListN.{length, take, drop, length-append}
-use lib.Seq.{take-at}
+use lib.ListN.{length, take, drop}
 use borrow.Author.Needs.{needs}
+use Rattle.slices.proofs.Parts.{joined-fit, relent-length}
 use Rattle.elimination.specs.Tableau.{turned}
 use Rattle.tableau.specs.Packed.{rows, triangle, Kept}
 use Rattle.system.specs.Reading.{Readable}
@@ -64,20 +64,16 @@ array-share-prefix-x c =
     let z = c .before .before .before .before .before in
     let a = z .args in
     let x = c .before .extend in
-    omega (
-      arith,
-      length-append (x .last .1 .0) (drop (a .n + 1) (seed (a .i) (a .e))),
-      x .kept .1 .0,
-      seed-front (a .n + 1) (a .i) (a .e) (omega (arith, z .pre .0 .unknowns)),
-    )
+    joined-fit (a .n + 1) (seed (a .i) (a .e)) (x .last .1 .0)
+    (whole (a .n) (a .i) (a .e) (x .last .1 .0) (z .pre .0 .unknowns) (x .kept .1 .0))
 
 slice-aggregate-turn : tie.Need-slice-aggregate-turn
 slice-aggregate-turn c =
     let z = c .before .before .before .before .before .before in
     let a = z .args in
     let x = c .before .before .extend in
-    let e = whole (a .n) (a .i) (a .e) (x .last .1 .0) (z .pre .0 .unknowns) (x .kept .1 .0) in
-    sym (ap length (take-at (x .last .1 .0) (drop (a .n + 1) (seed (a .i) (a .e))) (a .n + 1) e) ∙ e)
+    sym (relent-length (a .n + 1) (seed (a .i) (a .e)) (x .last .1 .0)
+    (whole (a .n) (a .i) (a .e) (x .last .1 .0) (z .pre .0 .unknowns) (x .kept .1 .0)))
 
 turn-requires : tie.Need-turn-requires
 turn-requires c κs =
@@ -85,7 +81,7 @@ turn-requires c κs =
     let a = z .args in
     let x = c .before .before .before .extend in
     let e = whole (a .n) (a .i) (a .e) (x .last .1 .0) (z .pre .0 .unknowns) (x .kept .1 .0) in
-    omega (arith, z .pre .1, e, ap length (take-at (x .last .1 .0) (drop (a .n + 1) (seed (a .i) (a .e))) (a .n + 1) e))
+    omega (arith, z .pre .1, relent-length (a .n + 1) (seed (a .i) (a .e)) (x .last .1 .0) e)
 
 same-length : tie.Need-same-length
 same-length c = search needs

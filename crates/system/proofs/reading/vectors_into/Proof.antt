@@ -5,7 +5,7 @@ use Prim.Native.Nat.{ℕ, _+_}
 use native.Mathlib.Omega.{arith}
 use lib.ListN.{length, drop}
 use lib.Seq.{length-take-le}
-use Rattle.tableau.proofs.Parts.{putBack, put-behind}
+use Rattle.slices.proofs.Parts.{putBack, put-behind}
 use Rattle.system.specs.Reading.{rowsIn, Laid, readVector, readSteps, readVectors}
 use Rattle.system.proofs.Laid.{laid-cons}
 use borrow.Author.Needs.{needs}

@@ -1,17 +1,18 @@
 -- `runs::multipliers_into` meets its contract: the last k numbers of the tableau are the carried columns of its last row.
 use mathlib.Core.Path.{_≡_, sym, ap, _∙_}
-use mathlib.Core.List.{List, [], _++_}
+use mathlib.Core.List.{List, []}
 use Prim.Native.Nat.{ℕ, _+_, _-_, _/_, _≤_}
 use native.Mathlib.Omega.{arith}
 use lib.ListN.{length, take, drop, getD}
-use lib.Seq.{take-at}
 use borrow.Author.Needs.{needs}
+use Rattle.slices.specs.Over.{over}
+use Rattle.slices.proofs.Parts.{lent, lent-is, lent-length}
+use Rattle.slices.proofs.Over.{over-front}
 use Rattle.elimination.specs.Multipliers.{multipliersOf, multipliers-row}
 use Rattle.elimination.specs.Tableau.{tableau}
 use Rattle.equations.specs.Lines.{equationsOf}
 use Rattle.tableau.specs.Packed.{rows, triangle}
 use Rattle.tableau.proofs.Packed.{triangle-front}
-use Rattle.tableau.proofs.Parts.{lent, lent-is, lent-length}
 use Rattle.system.proofs.Rows.{carried-rows}
 use Rattle.system.proofs.Lines.{length-equations, equations-few}
 use Rattle.system.proofs.runs.multipliers_into.Statement.{statement}
@@ -35,10 +36,9 @@ module _ (m n k : ℕ) (lines b : List ℕ) (number : k ≡ length lines / (n + 
       ∙ ap (λ (j : ℕ). drop 1 (getD (tableau m n j (equationsOf n lines)) n [])) (number ∙ sym (length-equations n lines))
       ∙ sym (multipliers-row m n (equationsOf n lines))
 
-  copied : (out rest : List ℕ) → rows (n + 1) (n + 1 + k) b ≡ tableau m n k (equationsOf n lines)
-      → out ≡ lent (length b - k) b ++ rest → take k out ≡ multipliersOf m n (equationsOf n lines)
-  copied out rest built e =
-      ap (λ (z : List ℕ). take k z) e ∙ take-at (lent (length b - k) b) rest k long ∙ carried built
+  copied : (old out : List ℕ) → rows (n + 1) (n + 1 + k) b ≡ tableau m n k (equationsOf n lines)
+      → out ≡ over (lent (length b - k) b) old → take k out ≡ multipliersOf m n (equationsOf n lines)
+  copied old out built e = over-front k (lent (length b - k) b) old e long ∙ carried built
 
 build-requires : tie.Need-build-requires
 build-requires c κs =
@@ -96,8 +96,7 @@ returns c =
     let a = z .args in
     let b = c .before .before .before .before .before .before .before .before .build in
     copied (a .m) (a .n) (a .k) (a .lines .now) (b .last .0) (z .pre .0 .1) (b .kept .0 ∙ z .pre .1 .0)
-    (c .before .before .copy .last .1 .0) (drop (length (lent (length (b .last .0) - a .k) (b .last .0))) (a .out .now))
-    (b .ensures .0) (c .before .before .copy .ensures)
+    (a .out .now) (c .before .before .copy .last .1 .0) (b .ensures .0) (c .before .before .copy .ensures)
 
 pub multipliers-into-spec : {M : Type 1} → statement M
 multipliers-into-spec =

@@ -1,9 +1,9 @@
 -- `spanning::insert_step` meets its contract: the line that is lent to the insertion is the step.
 use mathlib.Core.Path.{sym, ap, _∙_}
-use Prim.Native.Nat.{ℕ}
-use lib.ListN.{length, drop, replicate}
+use lib.ListN.{length, replicate}
 use borrow.Author.Needs.{needs}
-use Rattle.system.proofs.Spans.{line-is, insert-asks, insert-gives}
+use Rattle.slices.proofs.Over.{over-front}
+use Rattle.system.proofs.Spans.{insert-asks, insert-gives}
 use Rattle.system.proofs.spanning.insert_step.Statement.{statement}
 use Rattle.system.proofs.spanning.insert_step.Tie as tie
 
@@ -21,8 +21,7 @@ slice-aggregate-insert c =
     let z = c .before .before .before .before .before .before .before in
     let a = z .args in
     let p = c .before .before .before .copy in
-    let rest = drop {A = ℕ} (length (a .step .now)) (replicate 16 0) in
-    let line = line-is (a .n) (p .last .1 .0) (a .step .now) rest (p .ensures) (z .pre .0 .1) in
+    let line = over-front (a .n) (a .step .now) (replicate 16 0) (p .ensures) (z .pre .0 .1) in
     sym (ap length line ∙ z .pre .0 .1)
 
 insert-requires : tie.Need-insert-requires
@@ -30,8 +29,7 @@ insert-requires c κs =
     let z = c .before .before .before .before .before .before .before in
     let a = z .args in
     let p = c .before .before .before .copy in
-    let rest = drop {A = ℕ} (length (a .step .now)) (replicate 16 0) in
-    let line = line-is (a .n) (p .last .1 .0) (a .step .now) rest (p .ensures) (z .pre .0 .1) in
+    let line = over-front (a .n) (a .step .now) (replicate 16 0) (p .ensures) (z .pre .0 .1) in
     insert-asks (a .m) (a .n) _ (a .step .now) line (z .pre .0 .1) (a .basis .now) (z .pre .0 .2) (z .pre .1 .0) (z .pre .1 .1)
 
 same-length : tie.Need-same-length
@@ -42,8 +40,7 @@ returns c =
     let z = c .before .before .before .before .before .before .before .before .before .before .before in
     let a = z .args in
     let p = c .before .before .before .before .before .before .before .copy in
-    let rest = drop {A = ℕ} (length (a .step .now)) (replicate 16 0) in
-    let line = line-is (a .n) (p .last .1 .0) (a .step .now) rest (p .ensures) (z .pre .0 .1) in
+    let line = over-front (a .n) (a .step .now) (replicate 16 0) (p .ensures) (z .pre .0 .1) in
     let i = c .before .before .before .insert in
     insert-gives (a .m) (a .n) _ (a .step .now) line (z .pre .0 .1) (a .basis .now) (i .last .0) (i .ensures .0) (i .ensures .1)
 

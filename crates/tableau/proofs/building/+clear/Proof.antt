@@ -4,9 +4,9 @@ use mathlib.Core.List.{_∷_}
 use native.Mathlib.Omega.{arith}
 use lib.ListN.{drop, replicate}
 use borrow.Author.Needs.{needs}
+use Rattle.slices.proofs.Parts.{put-behind, joined-fit}
 use Rattle.tableau.specs.Packed.{rows, triangle}
-use Rattle.tableau.proofs.Parts.{put-behind}
-use Rattle.tableau.proofs.Packed.{rows-fit, front-length, joined-fit, behind-length, clear-next, clear-none}
+use Rattle.tableau.proofs.Packed.{rows-fit, front-length, behind-length, clear-next, clear-none}
 use Prim.Native.Nat.{ℕ, _+_, _-_, _<_}
 use borrow.Fn.Kinds.{In}
 use borrow.Fn.PlainCycle.{Measures, is, falls, and}

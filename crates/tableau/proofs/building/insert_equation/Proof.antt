@@ -1,15 +1,15 @@
 -- `building::insert_equation` meets its contract: what is lent to `insert` is the line that `load` has written.
-use mathlib.Core.Path.{sym, ap, _∙_, subst}
+use mathlib.Core.Path.{sym, _∙_, subst}
 use mathlib.Core.List.{List, _++_}
 use Prim.Native.Nat.{ℕ, _+_}
 use native.Mathlib.Omega.{arith}
-use lib.ListN.{length, take, drop, replicate}
+use lib.ListN.{take, drop, replicate}
 use lib.Seq.{take-at, length-take-le}
 use borrow.Author.Needs.{needs}
+use Rattle.slices.proofs.Parts.{joined-fit, relent-length}
 use Rattle.equations.specs.Vectors.{Below}
 use Rattle.elimination.specs.Tableau.{line, unit}
 use Rattle.equations.specs.Lines.{equationAt}
-use Rattle.tableau.proofs.Packed.{joined-fit}
 use Rattle.tableau.proofs.Walk.{walk-line}
 use Rattle.tableau.proofs.building.insert_equation.Statement.{statement}
 use Rattle.tableau.proofs.building.insert_equation.Tie as tie
@@ -50,8 +50,6 @@ array-borrow-prefix-out-2 c =
     let len = a .n + 1 + a .k in
     let f = length-take-le len blank (omega arith) in
     let l = c .before .before .load in
-    let e = take-at (l .last .0) (drop len blank) len (l .kept .0 ∙ f) in
-    let g = ap length e ∙ l .kept .0 ∙ f in
     joined-fit len blank (l .last .0) (l .kept .0 ∙ f)
 
 slice-aggregate-insert : tie.Need-slice-aggregate-insert
@@ -61,9 +59,7 @@ slice-aggregate-insert c =
     let len = a .n + 1 + a .k in
     let f = length-take-le len blank (omega arith) in
     let l = c .before .before .before .load in
-    let e = take-at (l .last .0) (drop len blank) len (l .kept .0 ∙ f) in
-    let g = ap length e ∙ l .kept .0 ∙ f in
-    sym g
+    sym (relent-length len blank (l .last .0) (l .kept .0 ∙ f))
 
 add-insert : tie.Need-add-insert
 add-insert c = search needs
@@ -76,7 +72,7 @@ insert-requires c κs =
     let f = length-take-le len blank (omega arith) in
     let l = c .before .before .before .load in
     let e = take-at (l .last .0) (drop len blank) len (l .kept .0 ∙ f) in
-    let g = ap length e ∙ l .kept .0 ∙ f in (
+    let g = relent-length len blank (l .last .0) (l .kept .0 ∙ f) in (
       (omega (arith, g), rw g (z .pre .0 .3)),
       (rw g (z .pre .1 .2), subst (Below (a .m)) (sym e) (l .ensures .1)),
     )
@@ -92,7 +88,7 @@ returns c =
     let f = length-take-le len blank (omega arith) in
     let l = c .before .before .before .before .before .before .before .load in
     let e = take-at (l .last .0) (drop len blank) len (l .kept .0 ∙ f) in
-    let g = ap length e ∙ l .kept .0 ∙ f in
+    let g = relent-length len blank (l .last .0) (l .kept .0 ∙ f) in
     let i = c .before .before .before .insert in (
       walk-line (a .m) (a .n + 1) len (a .basis .now) (i .last .0) (take len (l .last .0 ++ drop len blank)) (l .last .0)
           (line (a .m) (equationAt (a .n) (a .equation .now)) (unit (a .k) (a .i))) g e (l .ensures .0) (i .ensures .0),

@@ -3,7 +3,8 @@ use mathlib.Core.Path.{sym, _∙_}
 use native.Mathlib.Omega.{arith}
 use lib.ListN.{length}
 use borrow.Author.Needs.{needs}
-use Rattle.tableau.proofs.Packed.{rows-fit, front-length, joined-fit}
+use Rattle.slices.proofs.Parts.{joined-fit}
+use Rattle.tableau.proofs.Packed.{rows-fit, front-length}
 use Rattle.tableau.proofs.Walk.{kept-front, walk-requires, walk-same, walk-kept, walk-none}
 use Prim.Native.Nat.{ℕ, _<_}
 use borrow.Fn.Kinds.{In}

@@ -1,21 +1,26 @@
 -- `filling::zeros` meets its contract. The invariant: the first i entries are 0, the others as they were. The measure is
 -- what is left.
 use mathlib.Core.Path.{_≡_, ap, _∙_}
-use mathlib.Core.List.{List, _++_}
+use mathlib.Core.List.{List, _++_, append-nil}
 use Prim.Native.Nat.{ℕ, _-_, _≤_}
 use native.Mathlib.Omega.{arith}
 use lib.ListN.{length, drop, set, replicate, length-set}
+use lib.Seq.{drop-length}
 use borrow.Author.Needs.{needs}
 use borrow.Author.Fill.{fill-more}
-use Rattle.tableau.proofs.Stores.{fill-end}
-use Rattle.tableau.proofs.filling.zeros.Statement.{statement}
-use Rattle.tableau.proofs.filling.zeros.Tie as tie
+use Rattle.slices.proofs.filling.zeros.Statement.{statement}
+use Rattle.slices.proofs.filling.zeros.Tie as tie
 
 abbrev Inv-loop : tie.InvT-loop
 Inv-loop out₀ i₀ out i = (i ≤ length out₀) × (out ≡ replicate i 0 ++ drop i out₀) × (length out ≡ length out₀)
 
 abbrev μ-loop : tie.MeasureT-loop
 μ-loop out₀ i₀ out i = length out₀ - i
+
+fill-end : (i v : ℕ) (d out : List ℕ) → i ≡ length d → out ≡ replicate i v ++ drop i d → out ≡ replicate (length d) v
+fill-end i v d out h f =
+    f ∙ ap (λ (k : ℕ). replicate k v ++ drop k d) h
+    ∙ ap (λ (z : List ℕ). replicate (length d) v ++ z) (drop-length d) ∙ append-nil _
 
 loop-holds : tie.Need-loop-holds Inv-loop μ-loop
 loop-holds c = search needs

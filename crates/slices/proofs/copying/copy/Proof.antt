@@ -8,8 +8,8 @@ use native.Mathlib.Omega.{arith}
 use lib.ListN.{length, take, drop, getD, set, length-set}
 use lib.Seq.{take-length, take-suc, drop-cons, set-at, append-snoc, length-take-le}
 use borrow.Author.Needs.{needs}
-use Rattle.system.proofs.copying.copy.Statement.{statement}
-use Rattle.system.proofs.copying.copy.Tie as tie
+use Rattle.slices.proofs.copying.copy.Statement.{statement}
+use Rattle.slices.proofs.copying.copy.Tie as tie
 
 abbrev Inv-loop : tie.InvT-loop
 Inv-loop from to₀ i₀ to i = (i ≤ length from) × (length to ≡ length to₀) × (to ≡ take i from ++ drop i to₀)

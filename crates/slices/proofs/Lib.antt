@@ -1,0 +1,3 @@
+-- Laws of parts and of what is written to a front, for the proofs of every crate that lends slices.
+pub mod Parts
+pub mod Over

@@ -1,0 +1,34 @@
+-- What is written to the front of a lent list.
+--   over-front   it is what the front holds
+--   over-then    two lists, the second into the part behind the first
+--   head-then    a head stored, and a list into the part behind it
+use mathlib.Core.Path.{_≡_, refl, sym, ap, _∙_}
+use mathlib.Core.List.{List, [], _∷_, _++_, append-assoc}
+use Prim.Native.Nat.{ℕ, _<_}
+use native.Mathlib.Omega.{arith}
+use lib.ListN.{length, take, drop, set, length-append}
+use lib.Seq.{take-at, drop-drop}
+use Rattle.slices.specs.Over.{over}
+use Rattle.slices.proofs.Parts.{lent, putBack, lent-behind, put-behind}
+
+module _ {A : Type 0} where
+  pub over-front : (n : ℕ) (xs old : List A) {new : List A} → new ≡ over xs old → length xs ≡ n → take n new ≡ xs
+  over-front n xs old is h = ap (take n) is ∙ take-at xs (drop (length xs) old) n h
+
+  over-over : (xs ys old : List A) → xs ++ over ys (drop (length xs) old) ≡ over (xs ++ ys) old
+  over-over xs ys old =
+      sym (append-assoc xs ys _)
+      ∙ ap (λ (z : List A). (xs ++ ys) ++ z)
+      (drop-drop (length ys) (length xs) old ∙ ap (λ (k : ℕ). drop k old) (sym (length-append xs ys)))
+
+  pub over-then : (xs ys old : List A) {part : List A} → part ≡ over ys (lent (length xs) (over xs old))
+      → putBack (length xs) (over xs old) part ≡ over (xs ++ ys) old
+  over-then xs ys old {part} is =
+      put-behind (length xs) xs (drop (length xs) old) part refl
+      ∙ ap (λ (z : List A). xs ++ z) (is ∙ ap (over ys) (lent-behind (length xs) xs (drop (length xs) old) refl))
+      ∙ over-over xs ys old
+
+  pub head-then : (x : A) (xs old : List A) {part : List A} → 0 < length old → part ≡ over xs (lent 1 (set old 0 x))
+      → putBack 1 (set old 0 x) part ≡ over (x ∷ xs) old
+  head-then x xs [] some is = absurd (omega arith)
+  head-then x xs (y ∷ old) some is = over-then (x ∷ []) xs (y ∷ old) is

@@ -1,0 +1,2 @@
+-- The one definition that contracts over lent slices share.
+pub mod Over

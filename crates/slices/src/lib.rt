@@ -1,0 +1,3 @@
+// Numbers copied into a lent slice, and a lent slice filled: what the crates above do with memory that somebody lent.
+pub mod copying;
+pub mod filling;
