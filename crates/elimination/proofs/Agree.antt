@@ -4,23 +4,22 @@
 --   kernel-span                    where they agree, solutions with right sides 0 are in the span
 --   agree-of-same                  they agree where the two sets have the same lines of n entries
 use mathlib.Core.Path.{_≡_, sym, ap, ap₂, _∙_, subst}
-use mathlib.Core.Logic.{_⊎_, inl, inr}
 use mathlib.Core.List.{List}
 use Prim.Native.Nat.{ℕ, zero, suc, _+_, _-_, _*_, _≤_, _<_}
-use native.Mathlib.Nat.{mul-comm, eq-of-mul-eq-mul-left, eq-or-lt-of-le}
+use native.Mathlib.Nat.{mul-comm, eq-of-mul-eq-mul-left}
 use native.Mathlib.Omega.{arith}
 use lib.ListN.{length}
 use lib.Dec.{T, eqb, eqb→eq}
+use mir.Facts.{and-yes, yes-and, yes-eqb}
+use borrow.Author.Count.{below-more}
 use Rattle.residue.proofs.Divides.{factor-positive}
 use Rattle.equations.specs.Equation.{Equation, Shaped}
-use Rattle.equations.proofs.Truth.{both-of-and, and-of-both, eqb-of}
 use Rattle.elimination.specs.Basis.{basis, pivot}
 use Rattle.elimination.specs.Tableau.{tableau}
 use Rattle.elimination.specs.Marking.{agreeFor, agree}
-use Rattle.elimination.proofs.Basis.{Long}
+use Rattle.elimination.proofs.Basis.{All, Long}
 use Rattle.elimination.proofs.Row.{RowAt}
 use Rattle.elimination.proofs.Answer.{row-of}
-use Rattle.elimination.proofs.Linear.{All}
 use Rattle.elimination.proofs.Heads.{Head, head-unique, same-heads}
 use Rattle.elimination.proofs.Span.{Span, linear-span, span-in}
 use Rattle.elimination.proofs.SpanHeads.{span-head}
@@ -39,19 +38,14 @@ module _ (m n : ℕ) (B C : List (List ℕ)) where
   at-of-test : (l : ℕ) → T (agreeFor m n B C l) → (j : ℕ) → j < l → At j
   at-of-test zero t j lt = absurd (omega arith)
   at-of-test (suc l) t j lt =
-      let both = both-of-and (eqb (pivot l C * pivot (n - suc l) B) m) (agreeFor m n B C l) t in
-      go (eqb→eq (pivot l C * pivot (n - suc l) B) m (both .0)) (at-of-test l (both .1) j)
-      (eq-or-lt-of-le {n = j} {m = l} (omega arith))
-    where
-      go : At l → (j < l → At j) → (j ≡ l) ⊎ (j < l) → At j
-      go here before (inl e) = rw e here
-      go here before (inr h) = before h
+      let both = and-yes (eqb (pivot l C * pivot (n - suc l) B) m) (agreeFor m n B C l) t in
+      below-more At l (at-of-test l (both .1)) (eqb→eq (pivot l C * pivot (n - suc l) B) m (both .0)) j (omega arith)
 
   test-of-at : (l : ℕ) → l ≤ n → ((j : ℕ) → j < n → At j) → T (agreeFor m n B C l)
   test-of-at zero h at = tt
   test-of-at (suc l) h at =
-      and-of-both (eqb (pivot l C * pivot (n - suc l) B) m) (agreeFor m n B C l)
-      (eqb-of (pivot l C * pivot (n - suc l) B) m (at l (omega arith))) (test-of-at l (omega arith) at)
+      yes-and (eqb (pivot l C * pivot (n - suc l) B) m) (agreeFor m n B C l)
+      (yes-eqb (at l (omega arith))) (test-of-at l (omega arith) at)
 
   pub agree-of-test : T (agree m n B C) → Agree m n B C
   unfolding agree
@@ -64,7 +58,8 @@ module _ (m n : ℕ) (B C : List (List ℕ)) where
 
 -- ---- the two sets
 
-module _ (m n k : ℕ) (es : List Equation) (cs : List (List ℕ)) (pos : 0 < m) (shaped : Shaped n es) (long : Long n cs) where
+module _ (m n k : ℕ) (es : List Equation) (cs : List (List ℕ)) (pos : 0 < m) (shaped : Shaped n es)
+    (long : Long n cs) where
   abbrev B : List (List ℕ)
   B = tableau m n k es
 
@@ -81,7 +76,8 @@ module _ (m n k : ℕ) (es : List Equation) (cs : List (List ℕ)) (pos : 0 < m)
     product-of-head h = ap₂ _*_ h (row .pivot-is) ∙ mul-comm (row .e) (row .d) ∙ sym (row .factor)
 
     kernel-head-agreed : pivot j C * pivot i B ≡ m → Head (Kernel m es) j i (pivot j C)
-    kernel-head-agreed h = subst (Head (Kernel m es) j i) (head-of-product h) (kernel-head m n k es pos shaped j i place row)
+    kernel-head-agreed h =
+        subst (Head (Kernel m es) j i) (head-of-product h) (kernel-head m n k es pos shaped j i place row)
 
   pub kernel-span : Agree m n (tableau m n k es) (basis m n 0 cs) → All (Kernel m es) cs
       → (W : List ℕ) → length W ≡ n → Kernel m es W → Span m cs W

@@ -3,32 +3,27 @@
 --   answer-start, answer-none       its pivot is m: the starting vector; else nothing solves the equations
 --   answer-step, answer-no-step     a pivot above 1: the step at its place; the pivot 1: no step there
 -- That a pivot divides m and is not 0 is said in Row.
-use mathlib.Core.Path.{_≡_, refl, sym, ap, _∙_}
+use mathlib.Core.Path.{_≡_, sym, ap, _∙_}
 use mathlib.Core.Logic.{_⊎_, inl, inr}
 use mathlib.Core.List.{List, [], _∷_}
 use mathlib.Core.Option.{none, some}
 use Prim.Native.Nat.{ℕ, suc, _+_, _*_, _/_, _<_}
-use native.Mathlib.Nat.{one-mul}
+use native.Mathlib.Nat.{one-mul, div-eq-of-eq-mul-right}
 use native.Mathlib.Omega.{arith}
-use lib.ListN.{length, drop, length-drop}
+use lib.ListN.{length, drop, length-drop, drop-of-length-le}
 use Rattle.residue.specs.Congruent.{Congruent}
 use Rattle.residue.proofs.Congruent.{congruent-of, congruent-of-eq, congruent-trans, congruent-small}
-use Rattle.residue.proofs.Divides.{factor-positive, factor-div}
+use Rattle.residue.proofs.Divides.{factor-positive, factor-or-below, cofactor-below}
 use Rattle.equations.specs.Equation.{Equation, Shaped}
 use Rattle.equations.specs.Answer.{startOf, stepAt}
 use Rattle.equations.proofs.Dot.{dot-nil}
 use Rattle.elimination.specs.Basis.{pivot}
 use Rattle.elimination.specs.Tableau.{tableau, tableauStart, tableauStep}
-use Rattle.elimination.proofs.Modulus.{factor-or-below, cofactor-below}
 use Rattle.elimination.proofs.Zeros.{Sat}
 use Rattle.elimination.proofs.Row.{RowAt, row-at}
 use Rattle.elimination.proofs.Tableau.{length-tableau, good-tableau}
 use Rattle.elimination.proofs.Start.{start-first, start-none}
 use Rattle.elimination.proofs.Steps.{step-first, step-none}
-
-empty-list : (B : List (List ℕ)) → length B ≡ 0 → B ≡ []
-empty-list [] h = refl
-empty-list (r ∷ B) h = absurd (omega arith)
 
 module _ (m n k : ℕ) (es : List Equation) (pos : 0 < m) (shaped : Shaped n es) where
   pub row-of : (i : ℕ) → i < n + 1 → RowAt m k i (tableau m n k es)
@@ -40,7 +35,7 @@ module _ (m n k : ℕ) (es : List Equation) (pos : 0 < m) (shaped : Shaped n es)
   last-row a =
       a .here
       ∙ ap {B = List (List ℕ)} (λ R. (a .d ∷ a .r) ∷ R)
-      (empty-list (a .rest)
+      (drop-of-length-le (a .rest) {i = 0}
       (omega (arith, ap length (a .here), length-drop n (tableau m n k es), length-tableau m n k es pos shaped)))
 
   -- ---- the start
@@ -78,7 +73,7 @@ module _ (m n k : ℕ) (es : List Equation) (pos : 0 < m) (shaped : Shaped n es)
         go : RowAt m k i (tableau m n k es)
             → stepAt m n es j ≡ some (tableauStep m i j (tableau m n k es) (m / pivot i (tableau m n k es)))
         go a =
-            rw (a .pivot-is, factor-div (a .d) (a .e) (factor-positive m (a .d) (a .e) (a .factor) pos) (a .factor))
+            rw (a .pivot-is, div-eq-of-eq-mul-right (factor-positive m (a .d) (a .e) (a .factor) pos) (a .factor))
             (step-first m n k es pos shaped i j places (a .d) (a .e) (a .r) (a .rest) (a .here) (a .factor)
             (cofactor-below m (a .d) (a .e) pos (a .factor) (omega (arith, a .pivot-is))))
 

@@ -1,8 +1,8 @@
 -- A basis that is built from a list of lines, from the empty one on.
---   Long, Zeros        lines of w entries; lines that are 0 at X
+--   All, Long, Zeros           of every line of a list: it is in a set; has w entries; is 0 at X
 --   length-basis, good-basis   its form and its closure
---   sat-basis          where the lines are 0, so is the basis: for X of any length
---   zeros-basis        and back, for X of w entries
+--   sat-basis                  where the lines are 0, so is the basis: for X of any length
+--   zeros-basis                and back, for X of w entries
 use mathlib.Core.Path.{_≡_, refl, sym, ap, _∙_}
 use mathlib.Core.List.{List, [], _∷_}
 use Prim.Native.Nat.{ℕ, zero, suc, _+_, _≤_, _<_}
@@ -16,13 +16,15 @@ use Rattle.elimination.specs.Basis.{insert, inserts, empty, basis}
 use Rattle.elimination.proofs.Zeros.{Shape, Sat, length-insert, sat-insert, insert-sat}
 use Rattle.elimination.proofs.Closure.{Closure, Good, good-insert}
 
+abbrev pub All : (List ℕ → Type 0) → List (List ℕ) → Type 0
+All Q [] = Unit {0}
+All Q (l ∷ ls) = Q l × All Q ls
+
 abbrev pub Long : ℕ → List (List ℕ) → Type 0
-Long w [] = Unit {0}
-Long w (l ∷ ls) = (length l ≡ w) × Long w ls
+Long w = All (λ l. length l ≡ w)
 
 abbrev pub Zeros : ℕ → List (List ℕ) → List ℕ → Type 0
-Zeros m [] X = Unit {0}
-Zeros m (l ∷ ls) X = Congruent m (dot l X) 0 × Zeros m ls X
+Zeros m ls X = All (λ l. Congruent m (dot l X) 0) ls
 
 -- ---- the empty basis
 
@@ -37,8 +39,10 @@ shape-empty m k (suc w) pos =
 
 closure-empty : (m k w : ℕ) → Closure m (empty m k w)
 closure-empty m k zero = tt
-closure-empty m k (suc w) =
-    (record { e = 1; factor = omega arith; zero = λ X lx sat. congruent-of-eq (rw dot-zeros refl) }, closure-empty m k w)
+closure-empty m k (suc w) = (
+  record { e = 1; factor = omega arith; zero = λ X lx sat. congruent-of-eq (rw dot-zeros refl) },
+  closure-empty m k w,
+)
 
 good-empty : (m k w : ℕ) → 0 < m → Good m k (empty m k w)
 good-empty m k w pos = record { shape = shape-empty m k w pos; closure = closure-empty m k w }

@@ -1,13 +1,16 @@
--- The carried columns of the constant's row d ∷ ks: multiplied by ks, the equations add up to d in the constant's column.
--- Proof: take the point with the vector x, the constant's entry y, and behind them minus the value of each equation there.
--- Every line is 0 at it, so the row is.
+-- The carried columns of the constant's row d ∷ ks: multiplied by ks, the equations add up to d in the constant's
+-- column. Proof: take the point with the vector x, the constant's entry y, and behind them minus the value of each
+-- equation there. Every line is 0 at it, so the row is.
+--   dot-unit                    the carried columns pick one entry
 --   valueAt, carried-value      Σ ks·(value at x, y) ≡ d·y for every x and y
 --   sum-zero                    sums of pairs that cancel
-use mathlib.Core.Path.{_≡_, refl, sym, _∙_}
+use mathlib.Core.Path.{_≡_, refl, sym, ap, _∙_}
 use mathlib.Core.List.{List, [], _∷_, reverseAux, map}
 use Prim.Native.Nat.{ℕ, zero, suc, _+_, _*_, _%_, _<_}
+use native.Mathlib.Numerals.{add-one}
 use native.Mathlib.Omega.{arith}
 use lib.ListN.{length, drop, length-reverseAux}
+use lib.Seq.{drop-drop}
 use Rattle.residue.specs.Congruent.{Congruent}
 use Rattle.residue.specs.Negative.{negative}
 use Rattle.residue.proofs.Congruent.{congruent-of-eq, congruent-refl, congruent-sym, congruent-trans, congruent-add, congruent-mul, congruent-cancel}
@@ -20,15 +23,10 @@ use Rattle.elimination.proofs.Basis.{Zeros, sat-basis}
 use Rattle.elimination.proofs.Turned.{dot-reverse, drop-reverse}
 use Rattle.elimination.proofs.Lines.{long-lines}
 
--- ---- the carried columns pick one entry
-
 drop-next : (i : ℕ) (Y Z : List ℕ) (y : ℕ) → drop i Y ≡ y ∷ Z → drop (suc i) Y ≡ Z
-drop-next zero [] Z y h = absurd (let z : _≡_ {A = ℕ} 0 1 = cc in omega arith)
-drop-next zero (a ∷ Y) Z y h = cc
-drop-next (suc i) [] Z y h = absurd (let z : _≡_ {A = ℕ} 0 1 = cc in omega arith)
-drop-next (suc i) (a ∷ Y) Z y h = drop-next i Y Z y h
+drop-next i Y Z y h = ap (λ (k : ℕ). drop k Y) (sym (add-one i)) ∙ sym (drop-drop 1 i Y) ∙ ap (drop 1) h
 
-dot-unit : (k i : ℕ) (Y Z : List ℕ) (y : ℕ) → i < k → drop i Y ≡ y ∷ Z → dot (unit k i) Y ≡ y
+pub dot-unit : (k i : ℕ) (Y Z : List ℕ) (y : ℕ) → i < k → drop i Y ≡ y ∷ Z → dot (unit k i) Y ≡ y
 dot-unit zero i Y Z y h e = absurd (omega arith)
 dot-unit (suc k) zero [] Z y h e = absurd (let z : _≡_ {A = ℕ} 0 1 = cc in omega arith)
 dot-unit (suc k) zero (a ∷ Y) Z y h e = let f : a ≡ y = cc in omega (arith, dot-zeros k Y)

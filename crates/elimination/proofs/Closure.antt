@@ -1,5 +1,5 @@
--- The closure of a basis: where all rows after a row are 0, m / d times that row is 0, d its pivot. So a multiple of a row
--- that kills its pivot is made of the rows after it, and no column has to be looked at twice.
+-- The closure of a basis: where all rows after a row are 0, m / d times that row is 0, d its pivot. So a multiple of a
+-- row that kills its pivot is made of the rows after it, and no column has to be looked at twice.
 --   Closed, Closure      of one row, and of all; with it, that the pivot divides m
 --   Good                 the form of a basis and its closure
 --   good-insert          an insertion keeps both
@@ -11,7 +11,7 @@ use native.Mathlib.Nat.{mul-assoc}
 use native.Mathlib.Omega.{arith}
 use lib.ListN.{length}
 use Rattle.residue.specs.Congruent.{Congruent}
-use Rattle.residue.proofs.Congruent.{congruent-of-eq, congruent-refl, congruent-sym, congruent-trans, congruent-add, congruent-mul}
+use Rattle.residue.proofs.Congruent.{congruent-of-eq, congruent-refl, congruent-sym, congruent-trans, congruent-mul, congruent-absorb}
 use Rattle.equations.specs.Vectors.{combine}
 use Rattle.equations.specs.Equation.{dot}
 use Rattle.equations.proofs.Dot.{length-combine, dot-combine}
@@ -36,17 +36,17 @@ pub record Good (m k : ℕ) (B : List (List ℕ)) : Type 0 where
   pub shape : Shape k B
   pub closure : Closure m B
 
--- R and L are the values of row and line, N that of the new row: (m / g)·N is made of (m / d)·R and the new line's value
+-- R and L are the values of row and line, N that of the new row:
+-- (m / g)·N is made of (m / d)·R and the new line's value
 closed-step : {m q p s t n : ℕ} (e R L N : ℕ) → Unimodular m q p s t n
     → Congruent m N (s * R + t * L) → Congruent m (p * R + n * L) 0 → Congruent m (e * R) 0 → Congruent m (q * e * N) 0
 closed-step {m} {q} {p} {s} {t} {n} e R L N u new line row =
     congruent-trans (congruent-mul (congruent-refl {a = q * e}) new)
-    (congruent-trans {b = e * (q * (s * R + t * L) + t * 0)} (congruent-of-eq (omega arith))
+    (congruent-trans {b = e * (q * (s * R + t * L))} (congruent-of-eq (omega arith))
     (congruent-trans
     (congruent-mul (congruent-refl {a = e})
-    (congruent-trans
-    (congruent-add (congruent-refl {a = q * (s * R + t * L)}) (congruent-mul (congruent-refl {a = t}) (congruent-sym line)))
-    (row-back R L u)))
+    (congruent-trans (congruent-sym (congruent-absorb (q * (s * R + t * L)) t line))
+    (congruent-trans (congruent-of-eq (omega arith)) (row-back R L u))))
     row))
 
 closure-insert : (m k : ℕ) (B : List (List ℕ)) (W : List ℕ) → 0 < m → Shape k B → length W ≡ length B + k
@@ -60,7 +60,8 @@ closure-insert m k ((d ∷ r) ∷ B) (zero ∷ W) pos shape len closure =
         e = closure .0 .e;
         factor = closure .0 .factor;
         zero = λ X lx sat.
-            let lb = lx ∙ length-insert m B W in closure .0 .zero X lb (insert-sat m k B W X pos (shape .2) lw lb sat .0);
+            let lb = lx ∙ length-insert m B W in
+            closure .0 .zero X lb (insert-sat m k B W X pos (shape .2) lw lb sat .0);
       },
       closure-insert m k B W pos (shape .2) lw (closure .1),
     )
@@ -78,7 +79,8 @@ closure-insert m k ((d ∷ r) ∷ B) (suc v ∷ W) pos shape len closure =
             let lb = lx ∙ length-insert m B rest in
             let before = insert-sat m k B rest X pos (shape .2) lr lb sat in
             closed-step (closure .0 .e) (dot r X) (dot W X) _ (N .unimodular) (dot-combine m _ _ r W X e)
-            (congruent-trans (congruent-sym (dot-combine m _ _ r W X e)) (before .1)) (closure .0 .zero X lb (before .0));
+            (congruent-trans (congruent-sym (dot-combine m _ _ r W X e)) (before .1))
+            (closure .0 .zero X lb (before .0));
       },
       closure-insert m k B rest pos (shape .2) lr (closure .1),
     )

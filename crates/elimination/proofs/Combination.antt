@@ -1,29 +1,21 @@
 -- Combinations of steps: their sums of products, and vectors told by those.
---   plus-minus              b added l times and taken off l times leaves a
 --   values                  the sums of products of each step with X
 --   length-combination, below-combination   the form of a combination
 --   dot-combination         its sum is the start's plus that of coefficients and values
 --   same-sums               residues with the same sums of products are equal
 use mathlib.Core.Path.{_≡_, refl, sym, _∙_}
 use mathlib.Core.List.{List, [], _∷_, map}
-use Prim.Native.Nat.{ℕ, _+_, _*_, _<_}
+use Prim.Native.Nat.{ℕ, _+_, _<_}
 use native.Mathlib.Nat.{suc-inj}
 use native.Mathlib.Omega.{arith}
 use lib.ListN.{length}
 use Rattle.residue.specs.Congruent.{Congruent}
-use Rattle.residue.specs.Negative.{negative}
-use Rattle.residue.proofs.Congruent.{congruent-of-eq, congruent-refl, congruent-trans, congruent-add, congruent-mul, congruent-small}
-use Rattle.residue.proofs.Negative.{negative-is}
+use Rattle.residue.proofs.Congruent.{congruent-of-eq, congruent-refl, congruent-trans, congruent-linear, congruent-small}
 use Rattle.equations.specs.Vectors.{combination, Below}
 use Rattle.equations.specs.Equation.{dot}
 use Rattle.equations.proofs.Dot.{dot-nil, length-combine, dot-combine}
 use Rattle.equations.proofs.Vectors.{below-combine}
 use Rattle.elimination.proofs.Basis.{Long}
-
-pub plus-minus : (m l a b : ℕ) → 0 < m → Congruent m (a + (l + negative m l) * b) a
-plus-minus m l a b pos =
-    congruent-trans (congruent-add (congruent-refl {a = a}) (congruent-mul (negative-is m l pos) (congruent-refl {a = b})))
-    (congruent-of-eq (omega arith))
 
 abbrev pub values : List (List ℕ) → List ℕ → List ℕ
 values cs X = map (λ (c : List ℕ). dot c X) cs
@@ -41,9 +33,9 @@ module _ (m n : ℕ) (v : List ℕ) (lv : length v ≡ n) where
   dot-combination [] ts X long lt = congruent-of-eq (omega (arith, dot-nil ts))
   dot-combination (c ∷ cs) [] X long lt = absurd (omega arith)
   dot-combination (c ∷ cs) (t ∷ ts) X long lt =
-      congruent-trans (dot-combine m 1 t (combination m v cs ts) c X (length-combination cs ts (long .1) ∙ sym (long .0)))
-      (congruent-trans
-      (congruent-add (congruent-mul (congruent-refl {a = 1}) (dot-combination cs ts X (long .1) (suc-inj lt))) congruent-refl)
+      congruent-trans
+      (dot-combine m 1 t (combination m v cs ts) c X (length-combination cs ts (long .1) ∙ sym (long .0)))
+      (congruent-trans (congruent-linear 1 t (dot-combination cs ts X (long .1) (suc-inj lt)) congruent-refl)
       (congruent-of-eq (omega arith)))
 
 pub below-combination : (m : ℕ) (v : List ℕ) (cs : List (List ℕ)) (ts : List ℕ) → 0 < m → Below m v

@@ -1,8 +1,8 @@
--- A claim with the start c, and a line W: c + W is described exactly if W is in the span of the steps, and it solves the
--- equations exactly if W solves them with right sides 0. Every vector is such a c + W.
+-- A claim with the start c, and a line W: c + W is described exactly if W is in the span of the steps, and it solves
+-- the equations exactly if W solves them with right sides 0. Every vector is such a c + W, by `combine-difference`.
+--   length-shifted, length-difference   the form of c + W and of v - c
 --   described-of-span, span-of-described
 --   solves-of-kernel, kernel-of-solves
---   shifted            each vector is c plus its difference to c
 use mathlib.Core.Path.{_≡_, refl, sym, ap, _∙_}
 use mathlib.Core.List.{List}
 use Prim.Native.Nat.{ℕ, _+_, _<_}
@@ -12,19 +12,16 @@ use lib.Dec.{T}
 use Rattle.residue.specs.Congruent.{Congruent}
 use Rattle.residue.specs.Negative.{negative}
 use Rattle.residue.proofs.Congruent.{congruent-of-eq, congruent-refl, congruent-sym, congruent-trans, congruent-add, congruent-cancel}
-use Rattle.residue.proofs.Negative.{negative-is}
 use Rattle.equations.specs.Vectors.{Vector, combine, combination}
 use Rattle.equations.specs.Equation.{Equation, dot, solves}
 use Rattle.equations.proofs.Dot.{length-combine, dot-combine}
 use Rattle.equations.proofs.Vectors.{vector-length, vector-below, vector-of, below-combine}
-use Rattle.equations.proofs.Combine.{combine-comm, combine-undo}
 use Rattle.equations.proofs.Solving.{difference-solves, sum-solves}
 use Rattle.equations.proofs.Claim.{Described}
 use Rattle.elimination.proofs.Basis.{Long}
-use Rattle.elimination.proofs.Linear.{linear-same}
-use Rattle.elimination.proofs.Combination.{plus-minus, values, length-combination, dot-combination, below-combination, same-sums}
+use Rattle.elimination.proofs.Combination.{values, length-combination, dot-combination, below-combination, same-sums}
 use Rattle.elimination.proofs.Span.{Span}
-use Rattle.elimination.proofs.Kernel.{Kernel, linear-kernel}
+use Rattle.elimination.proofs.Kernel.{Kernel}
 
 module _ (m n : ℕ) (c : List ℕ) (pos : 0 < m) (vec : Vector m n c) where
   long-c : length c ≡ n
@@ -36,20 +33,8 @@ module _ (m n : ℕ) (c : List ℕ) (pos : 0 < m) (vec : Vector m n c) where
   dot-shifted : (W X : List ℕ) → length W ≡ n → Congruent m (dot (combine m 1 1 c W) X) (dot c X + dot W X)
   dot-shifted W X lw = congruent-trans (dot-combine m 1 1 c W X (long-c ∙ sym lw)) (congruent-of-eq (omega arith))
 
-  -- v - c has the sums that added to those of c give those of v
-  dot-difference : (v X : List ℕ) → length v ≡ n → Congruent m (dot c X + dot (combine m 1 (negative m 1) v c) X) (dot v X)
-  dot-difference v X lv =
-      congruent-trans (congruent-add (congruent-refl {a = dot c X}) (dot-combine m 1 (negative m 1) v c X (lv ∙ sym long-c)))
-      (congruent-trans (congruent-of-eq (omega arith)) (plus-minus m 1 (dot v X) (dot c X) pos))
-
   pub length-difference : (v : List ℕ) → length v ≡ n → length (combine m 1 (negative m 1) v c) ≡ n
   length-difference v lv = length-combine m 1 (negative m 1) v c (lv ∙ sym long-c) ∙ lv
-
-  pub shifted : (v : List ℕ) → Vector m n v → combine m 1 1 c (combine m 1 (negative m 1) v c) ≡ v
-  shifted v vv =
-      combine-comm m c (combine m 1 (negative m 1) v c)
-      ∙ combine-undo m n (negative m 1) 1 pos (congruent-trans (congruent-of-eq (omega arith)) (negative-is m 1 pos))
-      v c vv vec
 
   -- ---- the steps
 
@@ -76,7 +61,8 @@ module _ (m n : ℕ) (c : List ℕ) (pos : 0 < m) (vec : Vector m n c) where
             (congruent-trans
             (congruent-add (congruent-refl {a = dot c X})
             (congruent-trans (dot-combine m 1 0 (s .ts) (s .ts) (values cs X) refl)
-            (congruent-trans {b = dot (s .ts) (values cs X)} (congruent-of-eq (omega arith)) (congruent-sym (s .sums X)))))
+            (congruent-trans {b = dot (s .ts) (values cs X)} (congruent-of-eq (omega arith))
+            (congruent-sym (s .sums X)))))
             (congruent-sym (dot-shifted W X lw)))
 
     pub span-of-described : Described m c cs (combine m 1 1 c W) → Span m cs W
@@ -99,11 +85,4 @@ module _ (m n : ℕ) (c : List ℕ) (pos : 0 < m) (vec : Vector m n c) where
     solves-of-kernel = sum-solves m 1 c W (long-c ∙ sym lw) es start
 
     pub kernel-of-solves : T (solves m es (combine m 1 1 c W)) → Kernel m es W
-    kernel-of-solves t =
-        linear-same (Kernel m es) (linear-kernel m es) (combine m 1 (negative m 1) (combine m 1 1 c W) c) W
-        (difference-solves m (combine m 1 1 c W) c (length-shifted W lw ∙ sym long-c) pos es t start)
-        (λ X. congruent-cancel (dot c X)
-        (congruent-trans (congruent-of-eq (omega arith))
-        (congruent-trans (congruent-sym (dot-shifted W X lw))
-        (congruent-trans (congruent-sym (dot-difference (combine m 1 1 c W) X (length-shifted W lw)))
-        (congruent-of-eq (omega arith))))))
+    kernel-of-solves = difference-solves m c W (long-c ∙ sym lw) es start

@@ -1,5 +1,5 @@
--- What stands at place j in the lines of a set that have zeros before it: the multiples of one number, the set's head there.
--- Two sets have the same lines if they have the same heads and one contains the other.
+-- What stands at place j in the lines of a set that have zeros before it: the multiples of one number, the set's head
+-- there. Two sets have the same lines if they have the same heads and one contains the other.
 --   Head            d is the head at place j, where i entries follow it
 --   length-led      a line with j zeros in front
 --   head-unique     two sets with the same lines have the same head
@@ -12,13 +12,13 @@ use lib.ListN.{length, replicate, length-append, length-replicate}
 use Rattle.residue.specs.Congruent.{Congruent}
 use Rattle.residue.specs.Divides.{Divides}
 use Rattle.residue.specs.Negative.{negative}
-use Rattle.residue.proofs.Congruent.{congruent-of-eq, congruent-refl, congruent-sym, congruent-trans, congruent-add, congruent-mul}
+use Rattle.residue.proofs.Congruent.{congruent-of-eq, congruent-refl, congruent-sym, congruent-trans, congruent-add, congruent-mul, congruent-absorb}
 use Rattle.residue.proofs.Divides.{divides-antisym}
+use Rattle.residue.proofs.Negative.{negative-is}
 use Rattle.equations.specs.Vectors.{combine}
 use Rattle.equations.specs.Equation.{dot}
 use Rattle.equations.proofs.Dot.{length-combine, dot-combine}
 use Rattle.elimination.proofs.Linear.{Linear, linear-rest}
-use Rattle.elimination.proofs.Combination.{plus-minus}
 
 pub record Head (Q : List ℕ → Type 0) (j i d : ℕ) : Type 0 where
   pub rest : List ℕ
@@ -58,7 +58,7 @@ module _ (m : ℕ) (pos : 0 < m) (x d l : ℕ) (W r : List ℕ) (len : length W 
       congruent-sym
       (congruent-trans {b = 1 * dot W X + negative m l * dot r X + (l + negative m l) * (d * y)}
       (congruent-of-eq (omega (arith, ap (λ (z : ℕ). z * y) multiple)))
-      (congruent-trans (plus-minus m l (1 * dot W X + negative m l * dot r X) (d * y) pos)
+      (congruent-trans (congruent-absorb (1 * dot W X + negative m l * dot r X) (d * y) (negative-is m l pos))
       (congruent-trans (congruent-sym (dot-combine m 1 (negative m l) W r X len)) (congruent-of-eq (omega arith)))))
 
   restored : (X : List ℕ)
@@ -66,7 +66,8 @@ module _ (m : ℕ) (pos : 0 < m) (x d l : ℕ) (W r : List ℕ) (len : length W 
   restored X =
       congruent-sym
       (congruent-trans (congruent-add (congruent-mul (congruent-refl {a = 1}) (cleared X)) congruent-refl)
-      (congruent-trans (congruent-of-eq (omega arith)) (plus-minus m l (dot (x ∷ W) X) (dot (d ∷ r) X) pos)))
+      (congruent-trans (congruent-of-eq (omega arith))
+      (congruent-absorb (dot (x ∷ W) X) (dot (d ∷ r) X) (negative-is m l pos))))
 
 pub same-heads : (m n : ℕ) (Q K : List ℕ → Type 0) (d : ℕ → ℕ) → 0 < m → Linear m Q → Linear m K
     → ((W : List ℕ) → Q W → K W)
@@ -77,8 +78,9 @@ same-heads m zero Q K d pos lq lk into hq hk (x ∷ W) len k = absurd (omega ari
 same-heads m (suc n) Q K d pos lq lk into hq hk [] len k = absurd (omega arith)
 same-heads m (suc n) Q K d pos lq lk into hq hk (x ∷ W) len k =
     go (hq 0 n (omega arith)) (hk 0 n (omega arith) .divides x W (omega arith) k)
-    (λ h len k. same-heads m n (λ W. Q (0 ∷ W)) (λ W. K (0 ∷ W)) (λ j. d (suc j)) pos (linear-rest m Q lq) (linear-rest m K lk)
-    (λ W. into (0 ∷ W)) (λ j i place. head-rest Q j i (d (suc j)) (hq (suc j) i (omega arith)))
+    (λ h len k. same-heads m n (λ W. Q (0 ∷ W)) (λ W. K (0 ∷ W)) (λ j. d (suc j)) pos
+    (linear-rest m Q lq) (linear-rest m K lk) (λ W. into (0 ∷ W))
+    (λ j i place. head-rest Q j i (d (suc j)) (hq (suc j) i (omega arith)))
     (λ j i place. head-rest K j i (d (suc j)) (hk (suc j) i (omega arith))) h len k)
   where
     go : Head Q 0 n (d 0) → Divides (d 0) x → ((h : List ℕ) → length h ≡ n → K (0 ∷ h) → Q (0 ∷ h)) → Q (x ∷ W)

@@ -1,5 +1,5 @@
--- The solutions of equations with right sides put to 0. Their head at place j is m / d for the pivot d at the column of that
--- place in the tableau: the tableau's step there has it, and the row there lets only its multiples through.
+-- The solutions of equations with right sides put to 0. Their head at place j is m / d for the pivot d at the column of
+-- that place in the tableau: the tableau's step there has it, and the row there lets only its multiples through.
 --   Kernel              solves the equations with right sides 0
 --   linear-kernel       closed under combination
 --   kernel-head         its heads
@@ -13,7 +13,7 @@ use Rattle.residue.specs.Congruent.{Congruent}
 use Rattle.residue.proofs.Congruent.{congruent-of-eq, congruent-trans, congruent-combine}
 use Rattle.equations.specs.Equation.{Equation, dot, solves, homogeneous, Shaped}
 use Rattle.equations.proofs.Dot.{dot-comm}
-use Rattle.equations.proofs.Solving.{solves-cons, cons-solves}
+use Rattle.equations.proofs.Solving.{solves-cons, cons-solves, zeroRight}
 use Rattle.elimination.specs.Substitution.{extend}
 use Rattle.elimination.specs.Tableau.{turned, tableau, tableauStep}
 use Rattle.elimination.proofs.Substitution.{length-extend, drop-extend}
@@ -26,9 +26,6 @@ use Rattle.elimination.proofs.Heads.{Head, length-led}
 
 abbrev pub Kernel : ℕ → List Equation → List ℕ → Type 0
 Kernel m es W = T (solves m (homogeneous es) W)
-
-abbrev zeroRight : Equation → Equation
-zeroRight e = record { coefficients = e .coefficients; right = 0 }
 
 kernel-null : (m : ℕ) (es : List Equation) (c : List ℕ) → ((X : List ℕ) → Congruent m (dot c X) 0) → Kernel m es c
 kernel-null m [] c h = tt
@@ -60,7 +57,8 @@ reverse-zeros zero c z h = let e : z ≡ c = omega arith in rw e
 reverse-zeros (suc j) c z h = reverse-zeros j (suc c) z (omega arith)
 
 -- the point of a vector with j zeros in front
-led-point : (j x : ℕ) (W : List ℕ) → reverseAux (replicate j 0 ++ (x ∷ W)) (0 ∷ []) ≡ reverseAux W (x ∷ replicate (suc j) 0)
+led-point : (j x : ℕ) (W : List ℕ)
+    → reverseAux (replicate j 0 ++ (x ∷ W)) (0 ∷ []) ≡ reverseAux W (x ∷ replicate (suc j) 0)
 led-point j x W =
     reverseAux-append (replicate j 0) (x ∷ W) (0 ∷ [])
     ∙ ap (λ (R : List ℕ). reverseAux W (x ∷ R)) (reverse-zeros j 1 (suc j) (omega arith))
@@ -86,10 +84,13 @@ module _ (m n k : ℕ) (es : List Equation) (pos : 0 < m) (shaped : Shaped n es)
   step-led : tableauStep m i j B (row .e) ≡ replicate j 0 ++ (row .e ∷ turned i Y [])
   step-led =
       reverse-inj _ _ (0 ∷ []) (0 ∷ [])
-      (step-length m n k es pos shaped i j (omega arith) (row .d) (row .e) (row .r) (row .rest) (row .here) (row .factor)
+      (step-length m n k es pos shaped i j (omega arith) (row .d) (row .e) (row .r) (row .rest) (row .here)
+      (row .factor)
       ∙ sym (length-led j (row .e ∷ turned i Y []) ∙ omega (arith, length-turned i Y [] long)))
-      (step-point m n k es pos shaped i j (omega arith) (row .d) (row .e) (row .r) (row .rest) (row .here) (row .factor)
-      ∙ sym (led-point j (row .e) (turned i Y []) ∙ ap (reverseAux (turned i Y [])) (sym drop-Y) ∙ reverse-turned i Y [] long)) .0
+      (step-point m n k es pos shaped i j (omega arith) (row .d) (row .e) (row .r) (row .rest) (row .here)
+      (row .factor)
+      ∙ sym (led-point j (row .e) (turned i Y []) ∙ ap (reverseAux (turned i Y [])) (sym drop-Y)
+      ∙ reverse-turned i Y [] long)) .0
 
   pub kernel-head : Head (Kernel m es) j i (row .e)
   kernel-head = record {
@@ -97,10 +98,11 @@ module _ (m n k : ℕ) (es : List Equation) (pos : 0 < m) (shaped : Shaped n es)
     length-rest = length-turned i Y [] long ∙ omega arith;
     member =
         subst (Kernel m es) step-led
-        (step-solves m n k es pos shaped i j (omega arith) (row .d) (row .e) (row .r) (row .rest) (row .here) (row .factor));
+        (step-solves m n k es pos shaped i j (omega arith) (row .d) (row .e) (row .r) (row .rest) (row .here)
+        (row .factor));
     divides = λ x W lw t.
-        step-divides m n k es pos shaped i j (omega arith) (row .d) (row .e) (row .r) (row .rest) (row .here) (row .factor)
-        (replicate j 0 ++ (x ∷ W)) x
+        step-divides m n k es pos shaped i j (omega arith) (row .d) (row .e) (row .r) (row .rest) (row .here)
+        (row .factor) (replicate j 0 ++ (x ∷ W)) x
         (sat-homogeneous m n k es pos shaped (replicate j 0 ++ (x ∷ W)) (length-led j (x ∷ W) ∙ omega arith) t)
         (ap (drop i) (led-point j x W) ∙ drop-reverse i 0 W (x ∷ replicate (suc j) 0) (omega arith));
   }

@@ -1,9 +1,11 @@
--- Vectors whose first non-zero entry is at j, and their points: behind the i entries after it stand that entry and zeros.
---   dot-zeros-right, sat-zeros, drop-zeros, below-take-zeros      at zeros
+-- Vectors whose first non-zero entry is at j, and their points: behind the i entries
+-- after it stand that entry and zeros.
+--   sat-zeros                  a basis is 0 at zeros
+--   take-zeros, drop-zeros     parts of zeros
 --   Leading, leading-point     what the point of such a vector is
 --   leads-turned               and back
 --   colex-drop                 points that differ behind the first i columns
-use mathlib.Core.Path.{_≡_, refl}
+use mathlib.Core.Path.{_≡_, refl, ap}
 use mathlib.Core.Logic.{inl}
 use mathlib.Core.List.{List, [], _∷_, reverseAux}
 use Prim.Native.Nat.{ℕ, zero, suc, _+_, _≤_, _<_}
@@ -11,10 +13,10 @@ use native.Mathlib.Nat.{zero-lt-suc}
 use native.Mathlib.Omega.{arith}
 use lib.ListN.{length, take, drop, replicate}
 use lib.Dec.{T, eqb, eqb→eq, eqb·suc-zero}
+use mir.Facts.{and-yes}
 use Rattle.residue.proofs.Congruent.{congruent-of-eq}
-use Rattle.equations.specs.Equation.{dot}
 use Rattle.equations.specs.Answer.{leadsAt}
-use Rattle.equations.proofs.Truth.{both-of-and}
+use Rattle.equations.proofs.Dot.{dot-zeros-right}
 use Rattle.equations.specs.Vectors.{Below}
 use Rattle.elimination.specs.Tableau.{turned}
 use Rattle.elimination.proofs.Zeros.{Sat}
@@ -22,11 +24,6 @@ use Rattle.elimination.proofs.Substitution.{Colex}
 use Rattle.elimination.proofs.Turned.{drop-reverse}
 
 -- ---- zeros
-
-pub dot-zeros-right : (r : List ℕ) (j : ℕ) → dot r (replicate j 0) ≡ 0
-dot-zeros-right [] j = refl
-dot-zeros-right (x ∷ r) zero = refl
-dot-zeros-right (x ∷ r) (suc j) = omega (arith, dot-zeros-right r j)
 
 pub sat-zeros : (m : ℕ) (B : List (List ℕ)) (j : ℕ) → length B ≤ j → Sat m B (replicate j 0)
 sat-zeros m [] j h = tt
@@ -37,10 +34,10 @@ pub drop-zeros : (j : ℕ) → drop {A = ℕ} j (replicate (suc j) 0) ≡ 0 ∷ 
 drop-zeros zero = refl
 drop-zeros (suc j) = drop-zeros j
 
-pub below-take-zeros : (m j c : ℕ) → 0 < m → Below m (take j (replicate c 0))
-below-take-zeros m zero c pos = tt
-below-take-zeros m (suc j) zero pos = tt
-below-take-zeros m (suc j) (suc c) pos = (pos, below-take-zeros m j c pos)
+pub take-zeros : (j c : ℕ) → j ≤ c → take j (replicate {A = ℕ} c 0) ≡ replicate j 0
+take-zeros zero c h = refl
+take-zeros (suc j) zero h = absurd (omega arith)
+take-zeros (suc j) (suc c) h = ap {B = List ℕ} (λ z. 0 ∷ z) (take-zeros j c (omega arith))
 
 -- ---- the leading entry
 
@@ -61,7 +58,7 @@ leading-point m i zero k z (suc x ∷ v) lw zs below t = record {
   point = let e : z ≡ k = omega arith in rw e (drop-reverse i 0 v (suc x ∷ replicate k 0) (omega arith));
 }
 leading-point m i (suc j) k z (x ∷ v) lw zs below t =
-    let p = both-of-and (eqb x 0) (leadsAt j v) t in
+    let p = and-yes (eqb x 0) (leadsAt j v) t in
     rw (eqb→eq x 0 (p .0)) (leading-point m i j (suc k) z v (omega arith) (omega arith) (below .1) (p .1))
 
 -- zeros in front shift the place

@@ -1,5 +1,4 @@
 -- The method of specs/ gives the answer of the definitions in `equations`. Read in this order.
-pub mod Modulus
 pub mod Unimodular
 pub mod Step
 pub mod Zeros

@@ -1,10 +1,10 @@
--- Sets of lines that are closed under combination mod m, and that the rows of a basis are in such a set if the lines are from
--- which it is built. Whether a line is in the set depends on its sums of products alone.
+-- Sets of lines that are closed under combination mod m, and that the rows of a basis are in such a set if the lines
+-- are from which it is built. Whether a line is in the set depends on its sums of products alone.
 --   Linear             has every line that is 0 everywhere, and all combinations
 --   linear-same        has every line with the sums of one of its lines
 --   linear-rest        so have the lines that are in it with a 0 in front
 --   linear-zero        the lines that are 0 at X are such a set
---   All, Rows          every line of a list, and every row of a basis with zeros at the columns before its own
+--   Rows               every row of a basis is in the set, with zeros at the columns before its own
 --   rows-basis         the rows of a basis are in the set if its lines are
 --   rows-drop          the row at column j
 use mathlib.Core.Path.{_≡_, _∙_, subst}
@@ -21,7 +21,7 @@ use Rattle.elimination.specs.Step.{Step}
 use Rattle.elimination.specs.Basis.{insert, inserts, empty, basis}
 use Rattle.elimination.proofs.Step.{Numbers, step-numbers, row-value, line-value}
 use Rattle.elimination.proofs.Zeros.{Shape, length-insert, shape-insert}
-use Rattle.elimination.proofs.Basis.{Long, length-basis, good-basis}
+use Rattle.elimination.proofs.Basis.{All, Long, length-basis, good-basis}
 
 -- ---- sets closed under combination
 
@@ -35,7 +35,8 @@ pub linear-same : {m : ℕ} (Q : List ℕ → Type 0) → Linear m Q → (a c : 
 linear-same Q linear a c q h =
     linear .combined 1 0 a a c q q (λ X. congruent-trans (h X) (congruent-of-eq (omega arith)))
 
-null-rest : (m : ℕ) (c : List ℕ) → ((X : List ℕ) → Congruent m (dot c X) 0) → (X : List ℕ) → Congruent m (dot (0 ∷ c) X) 0
+null-rest : (m : ℕ) (c : List ℕ) → ((X : List ℕ) → Congruent m (dot c X) 0) → (X : List ℕ)
+    → Congruent m (dot (0 ∷ c) X) 0
 null-rest m c h [] = congruent-refl
 null-rest m c h (x ∷ X) = congruent-trans {b = dot c X} (congruent-of-eq (omega arith)) (h X)
 
@@ -43,7 +44,8 @@ combined-rest : (m s t : ℕ) (a b c : List ℕ) → ((X : List ℕ) → Congrue
     → (X : List ℕ) → Congruent m (dot (0 ∷ c) X) (s * dot (0 ∷ a) X + t * dot (0 ∷ b) X)
 combined-rest m s t a b c h [] = congruent-of-eq (omega arith)
 combined-rest m s t a b c h (x ∷ X) =
-    congruent-trans {b = dot c X} (congruent-of-eq (omega arith)) (congruent-trans (h X) (congruent-of-eq (omega arith)))
+    congruent-trans {b = dot c X} (congruent-of-eq (omega arith))
+    (congruent-trans (h X) (congruent-of-eq (omega arith)))
 
 pub linear-rest : (m : ℕ) (Q : List ℕ → Type 0) → Linear m Q → Linear m (λ W. Q (0 ∷ W))
 linear-rest m Q linear = record {
@@ -58,10 +60,6 @@ linear-zero m X = record {
 }
 
 -- ---- lines and rows in a set
-
-abbrev pub All : (List ℕ → Type 0) → List (List ℕ) → Type 0
-All Q [] = Unit {0}
-All Q (l ∷ ls) = Q l × All Q ls
 
 abbrev pub Rows : (List ℕ → Type 0) → List (List ℕ) → Type 0
 Rows Q [] = Unit {0}
@@ -100,8 +98,9 @@ rows-insert m k Q ((d ∷ r) ∷ B) (suc v ∷ W) pos linear shape len rows q =
     let N = step-numbers m d (suc v) pos (shape .1) in
     let e : length r ≡ length W = omega arith in (
       linear .combined _ _ (d ∷ r) (suc v ∷ W) _ (rows .0) q (row-combined N r W e),
-      rows-insert m k (λ W. Q (0 ∷ W)) B _ pos (linear-rest m Q linear) (shape .2) (length-combine m _ _ r W e ∙ shape .0)
-          (rows .1) (linear .combined _ _ (d ∷ r) (suc v ∷ W) _ (rows .0) q (line-combined N r W e)),
+      rows-insert m k (λ W. Q (0 ∷ W)) B _ pos (linear-rest m Q linear) (shape .2)
+          (length-combine m _ _ r W e ∙ shape .0) (rows .1)
+          (linear .combined _ _ (d ∷ r) (suc v ∷ W) _ (rows .0) q (line-combined N r W e)),
     )
 
 null-empty : (m j : ℕ) (X : List ℕ) → Congruent m (dot (m ∷ replicate j 0) X) 0
@@ -121,7 +120,8 @@ rows-inserts m w k Q B (l ∷ ls) pos linear lb shape long rows q =
     (shape-insert m k B l pos shape (omega arith)) (long .1)
     (rows-insert m k Q B l pos linear shape (omega arith) rows (q .0)) (q .1)
 
-pub rows-basis : (m w k : ℕ) (Q : List ℕ → Type 0) (ls : List (List ℕ)) → 0 < m → Linear m Q → Long (w + k) ls → All Q ls
+pub rows-basis : (m w k : ℕ) (Q : List ℕ → Type 0) (ls : List (List ℕ)) → 0 < m → Linear m Q → Long (w + k) ls
+    → All Q ls
     → Rows Q (basis m w k ls)
 unfolding basis
 rows-basis m w k Q ls pos linear long q =

@@ -13,12 +13,12 @@ use lib.ListN.{length, length-replicate, length-reverseAux}
 use lib.Dec.{T}
 use Rattle.residue.specs.Congruent.{Congruent}
 use Rattle.residue.specs.Negative.{negative}
-use Rattle.residue.proofs.Congruent.{congruent-of-eq, congruent-refl, congruent-sym, congruent-trans, congruent-add, congruent-mul, congruent-cancel}
+use Rattle.residue.proofs.Congruent.{congruent-of-eq, congruent-refl, congruent-sym, congruent-trans, congruent-add, congruent-cancel, congruent-absorb}
+use Rattle.residue.proofs.Negative.{negative-reduced}
 use Rattle.equations.specs.Equation.{Equation, dot, solves, homogeneous, Shaped}
 use Rattle.equations.proofs.Dot.{dot-nil}
 use Rattle.equations.proofs.Solving.{solves-cons, cons-solves}
 use Rattle.elimination.specs.Tableau.{unit, line, lines}
-use Rattle.elimination.proofs.Modulus.{negative-reduced}
 use Rattle.elimination.proofs.Basis.{Long, Zeros}
 use Rattle.elimination.proofs.Turned.{dot-reverse}
 
@@ -49,9 +49,8 @@ module _ (m : ℕ) (pos : 0 < m) where
 
   minus-zero : (b c : ℕ) → Congruent m (b * c + negative m b % m * c) 0
   minus-zero b c =
-      congruent-trans {b = (b + negative m b % m) * c} (congruent-of-eq (omega arith))
-      (congruent-trans (congruent-mul (negative-reduced m b pos) (congruent-refl {a = c}))
-      (congruent-of-eq (omega arith)))
+      congruent-trans {b = 0 + (b + negative m b % m) * c} (congruent-of-eq (omega arith))
+      (congruent-absorb 0 c (negative-reduced m b pos))
 
   line-of-equation : (e : Equation) (carried x : List ℕ) (c : ℕ) → length (e .coefficients) ≡ length x
       → Congruent m (dot (e .coefficients) x) (e .right * c)

@@ -1,22 +1,17 @@
--- Behind its pivot a row of a basis has residues only, whatever the lines are: a row begins as zeros, and a step reduces.
--- (The pivot is a divisor of m, so at most m.)
+-- Behind its pivot a row of a basis has residues only, whatever the lines are: a row begins as zeros, and a step
+-- reduces. (The pivot is a divisor of m, so at most m.)
 --   TailsBelow                     every row's entries behind its pivot are below m
 --   tails-insert, rows-below       through an insertion, and of a whole basis
 use mathlib.Core.List.{List, [], _∷_}
 use Prim.Native.Nat.{ℕ, zero, suc, _+_, _<_}
-use lib.ListN.{replicate}
 use Rattle.equations.specs.Vectors.{Below}
-use Rattle.equations.proofs.Vectors.{below-combine}
+use Rattle.equations.proofs.Vectors.{below-combine, below-zeros}
 use Rattle.elimination.specs.Basis.{insert, inserts, empty, basis}
 
 abbrev pub TailsBelow : ℕ → List (List ℕ) → Type 0
 TailsBelow m [] = Unit {0}
 TailsBelow m ([] ∷ B) = TailsBelow m B
 TailsBelow m ((d ∷ r) ∷ B) = Below m r × TailsBelow m B
-
-pub below-zeros : (m j : ℕ) → 0 < m → Below m (replicate j 0)
-below-zeros m zero pos = tt
-below-zeros m (suc j) pos = (pos, below-zeros m j pos)
 
 tails-empty : (m k w : ℕ) → 0 < m → TailsBelow m (empty m k w)
 tails-empty m k zero pos = tt

@@ -1,5 +1,5 @@
--- The lines with the sums of products of a combination of the steps cs: the least set that is closed under combination and
--- has the steps.
+-- The lines with the sums of products of a combination of the steps cs: the least set that is
+-- closed under combination and has the steps.
 --   Span               the coefficients, and the sums of products
 --   linear-span        closed under combination
 --   span-all           contains the steps
@@ -10,12 +10,12 @@ use Prim.Native.Nat.{ℕ, suc, _+_}
 use native.Mathlib.Omega.{arith}
 use lib.ListN.{length, replicate, length-replicate}
 use Rattle.residue.specs.Congruent.{Congruent}
-use Rattle.residue.proofs.Congruent.{congruent-of-eq, congruent-refl, congruent-sym, congruent-trans, congruent-add, congruent-mul}
+use Rattle.residue.proofs.Congruent.{congruent-of-eq, congruent-sym, congruent-trans, congruent-linear}
 use Rattle.equations.specs.Vectors.{combine, combination}
 use Rattle.equations.specs.Equation.{dot}
 use Rattle.equations.proofs.Dot.{dot-zeros, length-combine, dot-combine}
-use Rattle.elimination.proofs.Basis.{Long}
-use Rattle.elimination.proofs.Linear.{Linear, linear-same, All}
+use Rattle.elimination.proofs.Basis.{All, Long}
+use Rattle.elimination.proofs.Linear.{Linear, linear-same}
 use Rattle.elimination.proofs.Combination.{values, length-combination, dot-combination}
 
 pub record Span (m : ℕ) (cs : List (List ℕ)) (W : List ℕ) : Type 0 where
@@ -36,8 +36,7 @@ linear-span m cs = record {
         ts = combine m s t (p .ts) (q .ts);
         length-ts = length-combine m s t (p .ts) (q .ts) same ∙ p .length-ts;
         sums = λ X. congruent-trans (h X)
-            (congruent-trans
-            (congruent-add (congruent-mul (congruent-refl {a = s}) (p .sums X)) (congruent-mul (congruent-refl {a = t}) (q .sums X)))
+            (congruent-trans (congruent-linear s t (p .sums X) (q .sums X))
             (congruent-sym (dot-combine m s t (p .ts) (q .ts) (values cs X) same)));
       };
 }
@@ -79,5 +78,6 @@ module _ (m n : ℕ) (Q : List ℕ → Type 0) (linear : Linear m Q) where
   span-in cs long q W s =
       linear-same Q linear (combination m (replicate n 0) cs (s .ts)) W (combination-in cs (s .ts) long q)
       (λ X. congruent-trans (s .sums X)
-      (congruent-trans {b = dot (replicate n 0) X + dot (s .ts) (values cs X)} (congruent-of-eq (omega (arith, dot-zeros n X)))
+      (congruent-trans {b = dot (replicate n 0) X + dot (s .ts) (values cs X)}
+      (congruent-of-eq (omega (arith, dot-zeros n X)))
       (congruent-sym (dot-combination m n (replicate n 0) (length-replicate n 0) cs (s .ts) X long (s .length-ts)))))

@@ -1,6 +1,6 @@
--- The heads of the span of steps are the pivots of the basis of those steps. The rows of the basis are in the span. And for the
--- pivot d at j there is a point with m / d at j and zeros behind it at which the basis is 0, so that every step is, and so is
--- every line of the span: an entry x at j, with zeros before it, is killed by m / d.
+-- The heads of the span of steps are the pivots of the basis of those steps. The rows of the basis are in the span. And
+-- for the pivot d at j there is a point with m / d at j and zeros behind it at which the basis is 0, so that every step
+-- is, and so is every line of the span: an entry x at j, with zeros before it, is killed by m / d.
 --   span-head
 use mathlib.Core.Path.{_≡_, refl, sym, ap, _∙_, subst}
 use mathlib.Core.List.{List, [], _∷_, _++_}
@@ -10,19 +10,18 @@ use native.Mathlib.Omega.{arith}
 use lib.ListN.{length, drop, length-drop, replicate, length-replicate}
 use Rattle.residue.specs.Congruent.{Congruent}
 use Rattle.residue.proofs.Congruent.{congruent-of, congruent-of-eq, congruent-trans}
-use Rattle.residue.proofs.Divides.{divides-of-congruent}
+use Rattle.residue.proofs.Divides.{factor-cancel, divides-of-congruent}
 use Rattle.equations.specs.Equation.{dot}
-use Rattle.equations.proofs.Dot.{dot-nil}
+use Rattle.equations.proofs.Dot.{dot-nil, dot-zeros-right}
 use Rattle.elimination.specs.Basis.{basis, pivot}
 use Rattle.elimination.specs.Substitution.{extend}
-use Rattle.elimination.proofs.Modulus.{factor-cancel}
 use Rattle.elimination.proofs.Zeros.{Sat}
 use Rattle.elimination.proofs.Closure.{Good}
-use Rattle.elimination.proofs.Basis.{Long, Zeros, length-basis, good-basis, zeros-basis}
+use Rattle.elimination.proofs.Basis.{Long, length-basis, good-basis, zeros-basis}
 use Rattle.elimination.proofs.Substitution.{length-extend, drop-extend, sat-extend}
 use Rattle.elimination.proofs.Row.{RowAt, row-at}
-use Rattle.elimination.proofs.Leading.{dot-zeros-right, sat-zeros}
-use Rattle.elimination.proofs.Linear.{linear-zero, All, rows-basis, rows-drop}
+use Rattle.elimination.proofs.Leading.{sat-zeros}
+use Rattle.elimination.proofs.Linear.{linear-zero, rows-basis, rows-drop}
 use Rattle.elimination.proofs.Heads.{Head}
 use Rattle.elimination.proofs.Span.{Span, linear-span, span-all, span-in}
 
@@ -30,10 +29,6 @@ dot-led : (j : ℕ) (W X : List ℕ) → dot (replicate j 0 ++ W) X ≡ dot W (d
 dot-led zero W X = refl
 dot-led (suc j) W [] = sym (dot-nil W)
 dot-led (suc j) W (x ∷ X) = omega (arith, dot-led j W X)
-
-all-zeros : (m : ℕ) (cs : List (List ℕ)) (X : List ℕ) → Zeros m cs X → All (λ c. Congruent m (dot c X) 0) cs
-all-zeros m [] X z = tt
-all-zeros m (c ∷ cs) X z = (z .0, all-zeros m cs X (z .1))
 
 module _ (m n : ℕ) (cs : List (List ℕ)) (pos : 0 < m) (long : Long n cs) where
   abbrev C : List (List ℕ)
@@ -71,9 +66,9 @@ module _ (m n : ℕ) (cs : List (List ℕ)) (pos : 0 < m) (long : Long n cs) whe
     zero-X : (W : List ℕ) → Span m cs W → Congruent m (dot W X) 0
     zero-X =
         span-in m n (λ W. Congruent m (dot W X) 0) (linear-zero m X) cs long
-        (all-zeros m cs X (zeros-basis m n 0 pos cs X long-all
+        (zeros-basis m n 0 pos cs X long-all
         (length-extend m j C S (omega (arith, length-C)) ∙ omega (arith, length-S))
-        (sat-extend m j C S pos (good-C .closure) (omega (arith, length-S, length-C)) sat-S)))
+        (sat-extend m j C S pos (good-C .closure) (omega (arith, length-S, length-C)) sat-S))
 
     value-X : (x : ℕ) (W : List ℕ) → dot (replicate j 0 ++ (x ∷ W)) X ≡ row .e * x
     value-X x W =

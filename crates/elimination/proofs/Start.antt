@@ -1,5 +1,5 @@
--- The starting vector: back substitution from the constant 1 gives the first solution, `start-first`; where the constant's
--- own row does not let it be 1, there is none, `start-none`.
+-- The starting vector: back substitution from the constant 1 gives the first solution, `start-first`; where the
+-- constant's own row does not let it be 1, there is none, `start-none`.
 use mathlib.Core.Path.{_≡_, refl, subst}
 use mathlib.Core.Logic.{_⊎_}
 use mathlib.Core.List.{List, [], _∷_, reverseAux}

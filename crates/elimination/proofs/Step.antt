@@ -5,22 +5,22 @@ use mathlib.Core.Path.{_≡_, refl, sym, ap, _∙_}
 use mathlib.Core.List.{List}
 use mathlib.Core.Bool.{Bool, true, false, cond}
 use Prim.Native.Nat.{ℕ, _+_, _*_, _/_, _%_, _<_}
-use native.Mathlib.Nat.{mul-comm, mul-one, zero-mod}
+use native.Mathlib.Nat.{mul-comm, mul-one, div-eq-of-eq-mul-right}
 use native.Mathlib.Omega.{arith}
 use lib.ListN.{length}
 use lib.Dec.{eqb, eqb→eq}
 use Rattle.residue.specs.Congruent.{Congruent}
 use Rattle.residue.specs.Gcd.{gcd}
 use Rattle.residue.specs.Bezout.{cofactors}
-use Rattle.residue.proofs.Congruent.{congruent-of-eq, congruent-refl, congruent-sym, congruent-trans, congruent-add, congruent-mul, congruent-zero}
-use Rattle.residue.proofs.Divides.{factor-positive, factor-div}
+use Rattle.residue.proofs.Congruent.{congruent-of-eq, congruent-refl, congruent-sym, congruent-trans, congruent-add, congruent-mul, congruent-zero, congruent-of-remainder}
+use Rattle.residue.proofs.Divides.{factor-positive}
+use Rattle.residue.proofs.Negative.{negative-reduced}
 use Rattle.residue.proofs.Bezout.{Bezout, cofactors-bezout}
 use Rattle.equations.specs.Vectors.{combine}
 use Rattle.equations.specs.Equation.{dot}
 use Rattle.equations.proofs.Truth.{of-true}
 use Rattle.equations.proofs.Dot.{dot-combine}
 use Rattle.elimination.specs.Step.{Step, divided, reduced, stepOf}
-use Rattle.elimination.proofs.Modulus.{negative-reduced}
 use Rattle.elimination.proofs.Unimodular.{Unimodular}
 
 pub record Numbers (m d v : ℕ) (x : Step) : Type 0 where
@@ -35,7 +35,7 @@ divided-numbers : (m d v : ℕ) → 0 < m → v % d ≡ 0 → Numbers m d v (div
 divided-numbers m d v pos h = record {
   q = 1;
   row = sym (mul-one d);
-  line = congruent-zero (record { same = h ∙ sym (zero-mod d) }) ∙ mul-comm (v / d) d;
+  line = congruent-zero (congruent-of-remainder h) ∙ mul-comm (v / d) d;
   unimodular = record { one = congruent-of-eq (omega arith); minus = negative-reduced m 1 pos };
 }
 
@@ -57,10 +57,10 @@ reduced-numbers m d v pos dpos = record {
     gpos = factor-positive d g (b .q) (b .left) dpos
 
     q-is : d / g ≡ b .q
-    q-is = factor-div g (b .q) gpos (b .left)
+    q-is = div-eq-of-eq-mul-right gpos (b .left)
 
     p-is : v / g ≡ b .p
-    p-is = factor-div g (b .p) gpos (b .right)
+    p-is = div-eq-of-eq-mul-right gpos (b .right)
 
 pub step-numbers : (m d v : ℕ) → 0 < m → 0 < d → Numbers m d v (stepOf m d v)
 unfolding stepOf
@@ -105,5 +105,6 @@ module _ {m d v : ℕ} {x : Step} (N : Numbers m d v x) (y : ℕ) (r W Y : List 
       congruent-trans (congruent-add congruent-refl (dot-combine m (x .s) (x .t) r W Y len))
       (row-sum N y (dot r Y) (dot W Y))
 
-  pub line-value : Congruent m (dot (combine m (x .p) (x .n) r W) Y) (x .p * (d * y + dot r Y) + x .n * (v * y + dot W Y))
+  pub line-value : Congruent m (dot (combine m (x .p) (x .n) r W) Y)
+      (x .p * (d * y + dot r Y) + x .n * (v * y + dot W Y))
   line-value = congruent-trans (dot-combine m (x .p) (x .n) r W Y len) (line-sum N y (dot r Y) (dot W Y))

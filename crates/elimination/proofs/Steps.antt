@@ -13,24 +13,25 @@ use native.Mathlib.Nat.{mul-comm, eq-or-lt-of-le}
 use native.Mathlib.Omega.{arith}
 use lib.ListN.{length, drop, length-drop, replicate, length-replicate, length-reverseAux}
 use lib.Dec.{T}
+use mir.Facts.{and-yes, yes-and}
 use Rattle.residue.specs.Divides.{Divides}
 use Rattle.residue.proofs.Congruent.{congruent-of, congruent-of-eq, congruent-trans}
-use Rattle.residue.proofs.Divides.{factor-positive, divides-le, divides-of-congruent}
+use Rattle.residue.proofs.Divides.{factor-positive, factor-cancel, divides-le, divides-of-congruent}
 use Rattle.equations.specs.Vectors.{Vector}
 use Rattle.equations.specs.Equation.{Equation, solves, homogeneous, Shaped}
 use Rattle.equations.specs.Answer.{leadsAt, isStep, stepAt}
-use Rattle.equations.proofs.Truth.{both-of-and, and-of-both, false-of}
-use Rattle.equations.proofs.Vectors.{vector-length, vector-below}
+use Rattle.equations.proofs.Truth.{false-of}
+use Rattle.equations.proofs.Dot.{dot-zeros-right}
+use Rattle.equations.proofs.Vectors.{vector-length, vector-below, below-zeros}
 use Rattle.equations.proofs.First.{first-none}
 use Rattle.elimination.specs.Substitution.{extend}
 use Rattle.elimination.specs.Tableau.{turned, tableau, tableauStep}
-use Rattle.elimination.proofs.Modulus.{factor-cancel}
 use Rattle.elimination.proofs.Zeros.{Sat, sat-drop}
 use Rattle.elimination.proofs.Closure.{Closure}
 use Rattle.elimination.proofs.Substitution.{Colex, length-extend, drop-extend, sat-extend, extend-least}
 use Rattle.elimination.proofs.Turned.{extend-point, extend-vector, length-turned, first-colex}
 use Rattle.elimination.proofs.Tableau.{length-tableau, good-tableau, sat-homogeneous, homogeneous-solves}
-use Rattle.elimination.proofs.Leading.{dot-zeros-right, sat-zeros, drop-zeros, below-take-zeros, Leading, leading-point, leads-turned, colex-drop}
+use Rattle.elimination.proofs.Leading.{sat-zeros, take-zeros, drop-zeros, Leading, leading-point, leads-turned, colex-drop}
 
 module _ (m n k : ℕ) (es : List Equation) (pos : 0 < m) (shaped : Shaped n es) (i j : ℕ) (places : i + suc j ≡ n)
     (d e : ℕ) (r : List ℕ) (rest : List (List ℕ)) (here : drop i (tableau m n k es) ≡ (d ∷ r) ∷ rest)
@@ -75,7 +76,7 @@ module _ (m n k : ℕ) (es : List Equation) (pos : 0 < m) (shaped : Shaped n es)
   vector lt =
       rw is-turned
       (extend-vector m n i (suc j) 0 B S pos (omega (arith, long)) (sym places) (drop-zeros j)
-      (lt, below-take-zeros m j (suc j) pos))
+      (lt, rw (take-zeros j (suc j) (omega arith)) (below-zeros m j pos)))
 
   sat-S : Sat m (drop i B) S
   sat-S =
@@ -111,12 +112,12 @@ module _ (m n k : ℕ) (es : List Equation) (pos : 0 < m) (shaped : Shaped n es)
     sat-w : Sat m B (reverseAux w (0 ∷ []))
     sat-w =
         sat-homogeneous m n k es pos shaped w (vector-length m n w wv)
-        (both-of-and (solves m (homogeneous es) w) (leadsAt j w) t .0)
+        (and-yes (solves m (homogeneous es) w) (leadsAt j w) t .0)
 
     lead : Leading m i (suc j) (reverseAux w (0 ∷ []))
     lead =
         leading-point m i j 1 (suc j) w (vector-length m n w wv ∙ sym places) (omega arith) (vector-below m n w wv)
-        (both-of-and (solves m (homogeneous es) w) (leadsAt j w) t .1)
+        (and-yes (solves m (homogeneous es) w) (leadsAt j w) t .1)
 
     step-least : e ≤ lead .c
     step-least = divides-le (lead .positive) (step-divides w (lead .c) sat-w (lead .point))
@@ -140,7 +141,7 @@ module _ (m n k : ℕ) (es : List Equation) (pos : 0 < m) (shaped : Shaped n es)
   unfolding stepAt
   step-first lt =
       first-colex m n (isStep m es j) v 0 (vector lt)
-      (and-of-both (solves m (homogeneous es) v) (leadsAt j v) step-solves leads) least
+      (yes-and (solves m (homogeneous es) v) (leadsAt j v) step-solves leads) least
 
   pub step-none : e ≡ m → stepAt m n es j ≡ none
   unfolding stepAt

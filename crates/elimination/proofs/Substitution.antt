@@ -1,5 +1,5 @@
--- Back substitution finds, column by column, the least entry that makes the row 0, so the whole is the least in the order
--- in which the last entry counts first.
+-- Back substitution finds, column by column, the least entry that makes the row 0, so the whole is the least in the
+-- order in which the last entry counts first.
 --   place-zero, place-least, place-below   one column: the entry makes the row 0, is the least, and is a residue
 --   length-extend, drop-extend, below-extend   the form of the result
 --   sat-extend              all rows are 0 there, if those behind the first j columns are
@@ -14,10 +14,11 @@ use lib.ListN.{length, take, drop}
 use Rattle.residue.specs.Congruent.{Congruent}
 use Rattle.residue.specs.Negative.{negative}
 use Rattle.residue.proofs.Congruent.{congruent-of-eq, congruent-refl, congruent-sym, congruent-trans, congruent-add, congruent-cancel, congruent-zero, congruent-down}
+use Rattle.residue.proofs.Divides.{factor-cancel}
+use Rattle.residue.proofs.Negative.{negative-reduced}
 use Rattle.equations.specs.Equation.{dot}
 use Rattle.equations.specs.Vectors.{Below}
 use Rattle.elimination.specs.Substitution.{place, fit, extend}
-use Rattle.elimination.proofs.Modulus.{negative-reduced, factor-cancel}
 use Rattle.elimination.proofs.Zeros.{Sat}
 use Rattle.elimination.proofs.Closure.{Closure}
 
@@ -37,7 +38,8 @@ module _ (m d e R : ℕ) (pos : 0 < m) (factor : m ≡ d * e) where
       (congruent-sym (factor-cancel e d R pos (factor ∙ mul-comm d e) h))))
       (congruent-down d e factor minus-zero)
       in
-      congruent-trans (congruent-add (congruent-of-eq (mul-comm d _ ∙ sym (congruent-zero z))) congruent-refl) minus-zero
+      congruent-trans (congruent-add (congruent-of-eq (mul-comm d _ ∙ sym (congruent-zero z))) congruent-refl)
+      minus-zero
 
   pub place-least : (x : ℕ) → Congruent m (d * x + R) 0 → place m d R ≤ x
   unfolding place

@@ -47,7 +47,8 @@ module _ (m n k : ℕ) (es : List Equation) (pos : 0 < m) (shaped : Shaped n es)
   pub sat-tableau : (x : List ℕ) → length x ≡ n → T (solves m es x) → Sat m (tableau m n k es) (reverseAux x (1 ∷ []))
   sat-tableau x lx t = sat-of-holds 1 x lx (holds-of-solves m es x t)
 
-  pub tableau-solves : (x : List ℕ) → length x ≡ n → Sat m (tableau m n k es) (reverseAux x (1 ∷ [])) → T (solves m es x)
+  pub tableau-solves : (x : List ℕ) → length x ≡ n → Sat m (tableau m n k es) (reverseAux x (1 ∷ []))
+      → T (solves m es x)
   tableau-solves x lx sat = solves-of-holds m es x (holds-of-sat 1 x lx sat)
 
   pub sat-homogeneous : (x : List ℕ) → length x ≡ n → T (solves m (homogeneous es) x)

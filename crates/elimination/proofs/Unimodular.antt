@@ -6,7 +6,7 @@ use mathlib.Core.Path.{_≡_, ap}
 use Prim.Native.Nat.{ℕ, _+_, _*_}
 use native.Mathlib.Omega.{arith}
 use Rattle.residue.specs.Congruent.{Congruent}
-use Rattle.residue.proofs.Congruent.{congruent-of, congruent-witness, congruent-of-eq, congruent-refl, congruent-sym, congruent-trans, congruent-add, congruent-mul, congruent-combine}
+use Rattle.residue.proofs.Congruent.{congruent-of, congruent-witness, congruent-of-eq, congruent-refl, congruent-sym, congruent-trans, congruent-mul, congruent-combine, congruent-absorb}
 
 pub record Unimodular (m q p s t n : ℕ) : Type 0 where
   pub one : Congruent m (s * q + t * p) 1
@@ -40,7 +40,7 @@ module _ {m q p s t n : ℕ} (R L : ℕ) (u : Unimodular m q p s t n) where
 
   pub line-zero : Congruent m (s * R + t * L) 0 → Congruent m (p * R + n * L) 0 → Congruent m L 0
   line-zero h g =
-      congruent-trans {b = L + s * 0} (congruent-of-eq (omega arith))
-      (congruent-trans (congruent-add (congruent-refl {a = L}) (congruent-mul (congruent-refl {a = s}) (congruent-sym g)))
+      congruent-trans (congruent-sym (congruent-absorb L s g))
+      (congruent-trans (congruent-of-eq (omega arith))
       (congruent-trans (congruent-sym line-back)
       (congruent-trans (congruent-mul (congruent-refl {a = p}) h) (congruent-of-eq (omega arith)))))

@@ -1,6 +1,6 @@
--- A basis: a row for each column, kept without the columns before its own, which are 0. A row begins with its pivot, which
--- divides m; the pivot m stands for "nothing there yet". Behind the w columns stand k carried ones, which only follow along.
--- Definitions only.
+-- A basis: a row for each column, kept without the columns before its own, which are 0. A row begins with its
+-- pivot, which divides m; the pivot m stands for "nothing there yet". Behind the w columns stand k carried ones,
+-- which only follow along. Definitions only.
 use mathlib.Core.List.{List, [], _∷_}
 use Prim.Native.Nat.{ℕ, zero, suc, _+_}
 use lib.ListN.{replicate}

@@ -1,5 +1,5 @@
--- The multipliers that are shown where nothing solves the equations: the carried columns of the constant's row. Which ones
--- they are "is left free", so the name is shut. What must hold of them is the law `multipliers-refute` of
+-- The multipliers that are shown where nothing solves the equations: the carried columns of the constant's row. Which
+-- ones they are "is left free", so the name is shut. What must hold of them is the law `multipliers-refute` of
 -- proofs/Multipliers.antt; `multipliers-row` is for the code that computes them.
 use mathlib.Core.Path.{_≡_, refl}
 use mathlib.Core.List.{List, []}

@@ -1,6 +1,7 @@
--- The basis of a list of equations, and what is read off it. In a line the unknowns stand in reverse order, so that the first
--- one is eliminated last; behind them the constant, minus the right side; then k carried columns with a 1 at the equation's
--- own. The point of a vector is its reverse with 1 behind it, or 0 for right sides put to 0. Definitions only.
+-- The basis of a list of equations, and what is read off it. In a line the unknowns stand in reverse
+-- order, so that the first one is eliminated last; behind them the constant, minus the right side; then k
+-- carried columns with a 1 at the equation's own. The point of a vector is its reverse with 1 behind it,
+-- or 0 for right sides put to 0. Definitions only.
 use mathlib.Core.List.{List, [], _∷_, reverseAux}
 use Prim.Native.Nat.{ℕ, zero, suc, _+_, _%_}
 use lib.ListN.{replicate}

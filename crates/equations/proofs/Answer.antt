@@ -1,4 +1,5 @@
--- The answer: the solutions are the starting vector plus the solutions with right sides 0, and those are written by the steps.
+-- The answer: the solutions are the starting vector plus the solutions with right
+-- sides 0, and those are written by the steps.
 --   solutions-closed      the solutions with right sides 0 are closed under combination
 --   combination-start     a combination from c is c plus the combination from the zeros
 --   start-solves          the starting vector is a solution
@@ -22,7 +23,7 @@ use Rattle.equations.proofs.Vectors.{vector-same-length}
 use Rattle.equations.proofs.First.{first-none}
 use Rattle.equations.proofs.Search.{first-holds, none-means-none}
 use Rattle.equations.proofs.Solving.{combine-solves, zeros-solve, difference-solves, sum-solves}
-use Rattle.equations.proofs.Combine.{vector-combine, combine-comm, combine-assoc, combine-zeros, negative-opposite, combine-undo, combine-cancel}
+use Rattle.equations.proofs.Combine.{vector-combine, combine-comm, combine-assoc, combine-zeros, combine-difference, combine-cancel}
 use Rattle.equations.proofs.Closed.{Closed}
 use Rattle.equations.proofs.Steps.{stepsIn, steps-of-in}
 use Rattle.equations.proofs.Ranges.{spanned}
@@ -42,7 +43,8 @@ combination-start m n c vec (s ∷ ss) (t ∷ ts) =
     ap (λ (z : List ℕ). combine m 1 t z s) (combination-start m n c vec ss ts)
     ∙ combine-assoc m t c (spanned m n ss ts) s
 
-pub start-solves : (m n : ℕ) (es : List Equation) (c : List ℕ) → startOf m n es ≡ some c → Vector m n c × T (solves m es c)
+pub start-solves : (m n : ℕ) (es : List Equation) (c : List ℕ) → startOf m n es ≡ some c
+    → Vector m n c × T (solves m es c)
 unfolding startOf
 start-solves m n es c h = first-holds m n (solves m es) c h
 
@@ -53,7 +55,8 @@ start-none m n es =
     (none-means-none m n (solves m es), λ f. first-none m n (solves m es) (λ v vec. false-of (solves m es v) (f v vec)))
 
 -- c is a solution; the steps are those of the solutions with right sides 0
-module _ (m n : ℕ) (es : List Equation) (pos : 0 < m) (c : List ℕ) (start : Vector m n c) (solved : T (solves m es c)) where
+module _ (m n : ℕ) (es : List Equation) (pos : 0 < m) (c : List ℕ) (start : Vector m n c)
+    (solved : T (solves m es c)) where
   abbrev steps : List (List ℕ)
   steps = stepsIn m n (solves m (homogeneous es))
 
@@ -64,20 +67,22 @@ module _ (m n : ℕ) (es : List Equation) (pos : 0 < m) (c : List ℕ) (start : 
   all-solve ts =
       let h = span-solves ts in
       subst (λ (v : List ℕ). T (solves m es v)) (sym (combination-start m n c start steps ts))
-      (sum-solves m 1 c (spanned m n steps ts) (vector-same-length m n c (spanned m n steps ts) start (h .0)) es solved (h .1))
+      (sum-solves m 1 c (spanned m n steps ts) (vector-same-length m n c (spanned m n steps ts) start (h .0)) es
+      solved (h .1))
 
   all-written : (v : List ℕ) → Vector m n v → T (solves m es v) → Written m c steps v
   all-written v vec t =
       let h = combine m 1 (negative m 1) v c in
+      let sum = combine-difference m n pos v c vec start in
       let vec-h = vector-combine m n 1 (negative m 1) v c pos vec start in
-      let solves-h = difference-solves m v c (vector-same-length m n v c vec start) pos es t solved in
+      let solves-h =
+      difference-solves m c h (vector-same-length m n c h start vec-h) es solved
+      (subst (λ (v : List ℕ). T (solves m es v)) (sym sum) t)
+      in
       let u = writing m n (solves m (homogeneous es)) pos (solutions-closed m n es) h vec-h solves-h in (
         u .0,
         u .1,
-        combination-start m n c start steps (u .0)
-            ∙ ap (combine m 1 1 c) (u .2)
-            ∙ combine-comm m c h
-            ∙ combine-undo m n (negative m 1) 1 pos (negative-opposite m 1 pos) v c vec start,
+        combination-start m n c start steps (u .0) ∙ ap (combine m 1 1 c) (u .2) ∙ sum,
       )
 
   one-written : (ts us : List ℕ) → Within m steps ts → Within m steps us
@@ -115,5 +120,7 @@ module _ (m n : ℕ) (es : List Equation) (c : List ℕ) (pos : 0 < m) (h : star
       → combination m c (stepsOf m n es) ts ≡ combination m c (stepsOf m n es) us → ts ≡ us
   answer-unique ts us =
       let start = start-solves m n es c h in
-      subst (λ (ss : List (List ℕ)). Within m ss ts → Within m ss us → combination m c ss ts ≡ combination m c ss us → ts ≡ us)
+      subst
+      (λ (ss : List (List ℕ)). Within m ss ts → Within m ss us → combination m c ss ts ≡ combination m c ss us
+      → ts ≡ us)
       (sym (steps-of-in m n es pos)) (one-written m n es pos c (start .0) (start .1) ts us)

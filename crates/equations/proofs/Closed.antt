@@ -1,5 +1,5 @@
--- Sets of vectors that are closed under combination, and what stands at the head of their members: by the first step of such
--- a set, every head is a multiple of the step's, and so is m. No equation occurs here.
+-- Sets of vectors that are closed under combination, and what stands at the head of their members: by the first step of
+-- such a set, every head is a multiple of the step's, and so is m. No equation occurs here.
 --   Closed               holds of the zeros and of all combinations
 --   closed-rest          so do the members with head 0, without it
 --   headTest             the test of the step at the first place
@@ -15,15 +15,16 @@ use native.Mathlib.Nat.{mod-lt, zero-mod, div-add-mod', zero-lt-suc}
 use native.Mathlib.Omega.{arith}
 use lib.ListN.{replicate}
 use lib.Dec.{T, eqb, eqb→eq, not-T}
+use mir.Facts.{and-yes, yes-and}
 use Rattle.residue.specs.Congruent.{Congruent}
 use Rattle.residue.specs.Divides.{Divides}
 use Rattle.residue.specs.Negative.{negative}
-use Rattle.residue.proofs.Congruent.{congruent-of-eq, congruent-refl, congruent-sym, congruent-trans, congruent-add, congruent-mul, congruent-mod, congruent-small, congruent-multiple}
+use Rattle.residue.proofs.Congruent.{congruent-of-eq, congruent-refl, congruent-sym, congruent-trans, congruent-add, congruent-mul, congruent-mod, congruent-small, congruent-multiple, congruent-absorb}
+use Rattle.residue.proofs.Divides.{divides-of-remainder}
 use Rattle.residue.proofs.Negative.{negative-is}
 use Rattle.equations.specs.Lists.{first}
 use Rattle.equations.specs.Vectors.{Vector, vectors, combine}
 use Rattle.equations.specs.Answer.{leadsAt}
-use Rattle.equations.proofs.Truth.{both-of-and, and-of-both}
 use Rattle.equations.proofs.Search.{first-holds, first-least, none-means-none}
 use Rattle.equations.proofs.Combine.{vector-combine, vector-zeros}
 
@@ -54,7 +55,7 @@ pub record HeadStep (m n : ℕ) (p : List ℕ → Bool) (d : ℕ) (r : List ℕ)
 module _ (m n : ℕ) (p : List ℕ → Bool) (pos : 0 < m) (closed : Closed m (suc n) p) where
   test-nonzero : (x : ℕ) (w : List ℕ) → 0 < x → T (p (x ∷ w)) → T (headTest p (x ∷ w))
   test-nonzero x w lt t =
-      and-of-both (p (x ∷ w)) (not (eqb x 0)) t
+      yes-and (p (x ∷ w)) (not (eqb x 0)) t
       (not-T (eqb x 0) (λ u. let z : x ≡ 0 = eqb→eq x 0 u in omega arith))
 
   module _ (d : ℕ) (r : List ℕ) (dpos : 0 < d) (h : first (headTest p) (vectors m (suc n)) ≡ some (d ∷ r)) where
@@ -62,7 +63,7 @@ module _ (m n : ℕ) (p : List ℕ → Bool) (pos : 0 < m) (closed : Closed m (s
     step-vector = first-holds m (suc n) (headTest p) (d ∷ r) h .0
 
     step-holds : T (p (d ∷ r))
-    step-holds = both-of-and (p (d ∷ r)) (leadsAt 0 (d ∷ r)) (first-holds m (suc n) (headTest p) (d ∷ r) h .1) .0
+    step-holds = and-yes (p (d ∷ r)) (leadsAt 0 (d ∷ r)) (first-holds m (suc n) (headTest p) (d ∷ r) h .1) .0
 
     no-smaller : (x : ℕ) (w : List ℕ) → x < d → Vector m n w → T (p (x ∷ w)) → x ≡ 0
     no-smaller zero w lt vec t = refl
@@ -73,7 +74,7 @@ module _ (m n : ℕ) (p : List ℕ → Bool) (pos : 0 < m) (closed : Closed m (s
     -- d divides what a head is congruent to: k times the step added leaves the remainder, which is smaller
     divides-head : (a x k : ℕ) (w : List ℕ) → Congruent m (a / d + k) 0 → x < m → Vector m n w → T (p (x ∷ w))
         → Congruent m x a → Divides d a
-    divides-head a x k w opposite lt vec t c = record { quotient = a / d; eq = omega (arith, div-add-mod' a d, none-left) }
+    divides-head a x k w opposite lt vec t c = divides-of-remainder none-left
       where
         small : a % d < m
         small = omega (arith, mod-lt a dpos, step-vector .0)
@@ -83,10 +84,8 @@ module _ (m n : ℕ) (p : List ℕ → Bool) (pos : 0 < m) (closed : Closed m (s
             congruent-small (mod-lt (1 * x + k * d) pos) small
             (congruent-trans (congruent-mod m (1 * x + k * d))
             (congruent-trans (congruent-add (congruent-mul (congruent-refl {a = 1}) c) (congruent-refl {a = k * d}))
-            (congruent-trans {b = (a / d + k) * d + a % d} (congruent-of-eq (omega (arith, div-add-mod' a d)))
-            (congruent-trans
-            (congruent-add (congruent-mul opposite (congruent-refl {a = d})) (congruent-refl {a = a % d}))
-            (congruent-of-eq (omega arith))))))
+            (congruent-trans {b = a % d + (a / d + k) * d} (congruent-of-eq (omega (arith, div-add-mod' a d)))
+            (congruent-absorb (a % d) d opposite))))
 
         none-left : a % d ≡ 0
         none-left =
@@ -103,12 +102,13 @@ module _ (m n : ℕ) (p : List ℕ → Bool) (pos : 0 < m) (closed : Closed m (s
       modulus =
           divides-head m 0 (negative m (m / d)) (replicate n 0) (negative-is m (m / d) pos) pos (vector-zeros m n pos)
           (closed .zeros) (congruent-sym (congruent-trans (congruent-of-eq (omega arith)) (congruent-multiple 1)));
-      heads = λ x w lt vec t. divides-head x x (negative m (x / d)) w (negative-is m (x / d) pos) lt vec t congruent-refl;
+      heads = λ x w lt vec t.
+          divides-head x x (negative m (x / d)) w (negative-is m (x / d) pos) lt vec t congruent-refl;
     }
 
   head-step : (d : ℕ) (r : List ℕ) → first (headTest p) (vectors m (suc n)) ≡ some (d ∷ r) → HeadStep m n p d r
   head-step zero r h =
-      absurd (both-of-and (p (0 ∷ r)) false (first-holds m (suc n) (headTest p) (0 ∷ r) h .1) .1)
+      absurd (and-yes (p (0 ∷ r)) false (first-holds m (suc n) (headTest p) (0 ∷ r) h .1) .1)
   head-step (suc d) r h = head-step-of (suc d) r (zero-lt-suc d) h
 
   head-none : first (headTest p) (vectors m (suc n)) ≡ none
@@ -122,7 +122,8 @@ pub data Head (m n : ℕ) (p : List ℕ → Bool) : Option (List ℕ) → Type 0
   stepped : (d : ℕ) (r : List ℕ) → HeadStep m n p d r → Head m n p (some (d ∷ r))
   unstepped : ((x : ℕ) (w : List ℕ) → x < m → Vector m n w → T (p (x ∷ w)) → x ≡ 0) → Head m n p none
 
-pub head-of : (m n : ℕ) (p : List ℕ → Bool) → 0 < m → Closed m (suc n) p → Head m n p (first (headTest p) (vectors m (suc n)))
+pub head-of : (m n : ℕ) (p : List ℕ → Bool) → 0 < m → Closed m (suc n) p
+    → Head m n p (first (headTest p) (vectors m (suc n)))
 head-of m n p pos closed = go (first (headTest p) (vectors m (suc n))) refl
   where
     go : (o : Option (List ℕ)) → first (headTest p) (vectors m (suc n)) ≡ o → Head m n p o

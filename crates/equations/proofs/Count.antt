@@ -1,4 +1,5 @@
--- How many vectors pass a test, by the heads of the vectors; and that the number does not change when all vectors are shifted.
+-- How many vectors pass a test, by the heads of the vectors; and that the number does
+-- not change when all vectors are shifted.
 --   count-vectors   the vectors with head 0, with head 1, and so on
 --   count-same      tests that agree on all vectors
 --   count-none      a test that no vector passes
@@ -18,7 +19,8 @@ count-append p (v ∷ vs) ws =
     ap (λ (z : ℕ). cond (p v) (suc z) z) (count-append p vs ws) ∙ one-more (p v)
   where
     one-more : (b : Bool)
-        → cond b (suc (count p vs + count p ws)) (count p vs + count p ws) ≡ cond b (suc (count p vs)) (count p vs) + count p ws
+        → cond b (suc (count p vs + count p ws)) (count p vs + count p ws)
+        ≡ cond b (suc (count p vs)) (count p vs) + count p ws
     one-more true = omega arith
     one-more false = refl
 

@@ -22,7 +22,8 @@ abbrev headedBy : ℕ → Option (List ℕ) → Option (List ℕ)
 headedBy x (some v) = some (x ∷ v)
 headedBy x none = none
 
-cond-or : (b : Bool) (v : List ℕ) (o o′ : Option (List ℕ)) → orElse (cond b (some v) o) o′ ≡ cond b (some v) (orElse o o′)
+cond-or : (b : Bool) (v : List ℕ) (o o′ : Option (List ℕ))
+    → orElse (cond b (some v) o) o′ ≡ cond b (some v) (orElse o o′)
 cond-or true v o o′ = refl
 cond-or false v o o′ = refl
 
@@ -57,7 +58,8 @@ none-headed p vs x zero h = refl
 none-headed p vs x (suc k) h =
     first-headed p x k vs none (h x (omega arith)) ∙ none-headed p vs (suc x) k (λ y lt. h y (omega arith))
 
-pub first-none : (m n : ℕ) (p : List ℕ → Bool) → ((w : List ℕ) → Vector m n w → p w ≡ false) → first p (vectors m n) ≡ none
+pub first-none : (m n : ℕ) (p : List ℕ → Bool) → ((w : List ℕ) → Vector m n w → p w ≡ false)
+    → first p (vectors m n) ≡ none
 first-none m zero p h = ap (λ (b : Bool). cond b (some []) none) (h [] tt)
 first-none m (suc n) p h =
     none-headed p (vectors m n) 0 m (λ x lt. first-none m n (λ v. p (x ∷ v)) (λ w vec. h (x ∷ w) (omega arith, vec)))

@@ -9,9 +9,10 @@ use mathlib.Core.Option.{none, some, Option·none-ne-some, Option·some-ne-none}
 use mathlib.Core.Bool.{Bool, true, false, _&&_, _||_, cond, not}
 use Prim.Native.Nat.{ℕ}
 use lib.Dec.{T, eqb, eqb→eq, eqb-refl}
+use mir.Facts.{and-yes, yes-and}
 use Rattle.equations.specs.Lists.{first, every, someone}
 use Rattle.equations.specs.Vectors.{Vector, vectors, sameVector}
-use Rattle.equations.proofs.Truth.{true-of, of-true, of-false, both-of-and, and-of-both}
+use Rattle.equations.proofs.Truth.{true-of, of-true, of-false}
 use Rattle.equations.proofs.First.{first-none, first-is}
 use Rattle.equations.proofs.Search.{Search, search-vectors, none-means-none}
 
@@ -89,11 +90,11 @@ eq-of-same [] [] t = refl
 eq-of-same [] (y ∷ w) t = absurd t
 eq-of-same (x ∷ v) [] t = absurd t
 eq-of-same (x ∷ v) (y ∷ w) t =
-    let b = both-of-and (eqb x y) (sameVector v w) t in ap₂ _∷_ (eqb→eq x y (b .0)) (eq-of-same v w (b .1))
+    let b = and-yes (eqb x y) (sameVector v w) t in ap₂ _∷_ (eqb→eq x y (b .0)) (eq-of-same v w (b .1))
 
 pub same-of-eq : (v w : List ℕ) → v ≡ w → T (sameVector v w)
 same-of-eq v w h = subst (λ (w : List ℕ). T (sameVector v w)) h (same v)
   where
     same : (v : List ℕ) → T (sameVector v v)
     same [] = tt
-    same (x ∷ v) = and-of-both (eqb x x) (sameVector v v) (eqb-refl x) (same v)
+    same (x ∷ v) = yes-and (eqb x x) (sameVector v v) (eqb-refl x) (same v)

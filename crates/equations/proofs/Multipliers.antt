@@ -1,27 +1,26 @@
 -- Multipliers that refute equations, said by for-all; and that refuted equations have no solution.
 --   Refutation        the equations so multiplied add up to 0 = a number that is not 0
---   all-below         `allBelow` says that each number is below m
 --   refutes-is        `refutes` says that
 --   refuted-none      no vector solves them
-use mathlib.Core.Path.{_≡_, refl, ap, _∙_, sym}
-use mathlib.Core.Logic.{_⊎_, inl, inr, _↔_}
+use mathlib.Core.Path.{_≡_, refl, ap}
+use mathlib.Core.Logic.{_↔_}
 use mathlib.Core.List.{List, [], _∷_, map}
 use mathlib.Core.Option.{none}
 use mathlib.Core.Bool.{Bool, _&&_, not}
 use Prim.Native.Nat.{ℕ, zero, suc, _+_, _*_, _%_, _<_}
-use native.Mathlib.Nat.{zero-mod, eq-or-lt-of-le}
 use native.Mathlib.Omega.{arith}
 use lib.ListN.{length, getD, drop}
-use lib.Dec.{T, eqb, eqb→eq, ltb, ltb→lt, lt→ltb, T-not, not-T}
+use lib.Dec.{T, eqb, eqb→eq, T-not, not-T}
+use mir.Facts.{and-yes, yes-and, yes-eqb}
+use borrow.Author.Count.{below-more}
 use Rattle.residue.specs.Congruent.{Congruent}
-use Rattle.residue.proofs.Congruent.{congruent-of-eq, congruent-refl, congruent-sym, congruent-trans, congruent-add, congruent-mul}
+use Rattle.residue.proofs.Congruent.{congruent-of-eq, congruent-refl, congruent-sym, congruent-trans, congruent-add, congruent-mul, congruent-of-remainder, remainder-of-congruent}
 use Rattle.equations.specs.Equation.{Equation, dot, solves}
 use Rattle.equations.specs.Answer.{startOf}
 use Rattle.equations.specs.Multipliers.{column, rights, allBelow, zeroColumns, refutes}
-use Rattle.equations.proofs.Truth.{both-of-and, and-of-both, eqb-of}
 use Rattle.equations.proofs.Dot.{dot-nil}
 use Rattle.equations.specs.Vectors.{Below}
-use Rattle.equations.proofs.Vectors.{vector-length}
+use Rattle.equations.proofs.Vectors.{vector-length, all-below}
 use Rattle.equations.proofs.Solving.{solves-cons}
 use Rattle.equations.proofs.Answer.{start-none}
 
@@ -35,33 +34,22 @@ pub record Refutation (m n : ℕ) (es : List Equation) (ks : List ℕ) : Type 0 
 
 remainder-zero : (m a : ℕ) → T (eqb (a % m) 0) ↔ Congruent m a 0
 remainder-zero m a = (
-  (λ t. record { same = eqb→eq (a % m) 0 t ∙ sym (zero-mod m) }),
-  λ c. eqb-of (a % m) 0 (c .same ∙ zero-mod m),
-)
-
-pub all-below : (m : ℕ) (ks : List ℕ) → T (allBelow m ks) ↔ Below m ks
-all-below m [] = ((λ t. tt), λ b. tt)
-all-below m (k ∷ ks) = (
-  (λ t. let b = both-of-and (ltb k m) (allBelow m ks) t in (ltb→lt k m (b .0), all-below m ks .0 (b .1))),
-  λ b. and-of-both (ltb k m) (allBelow m ks) (lt→ltb k m (b .0)) (all-below m ks .1 (b .1)),
+  (λ t. congruent-of-remainder (eqb→eq (a % m) 0 t)),
+  λ c. yes-eqb (remainder-of-congruent c),
 )
 
 zero-columns : (m n : ℕ) (es : List Equation) (ks : List ℕ)
     → T (zeroColumns m n es ks) ↔ ((j : ℕ) → j < n → Congruent m (dot ks (column j es)) 0)
 zero-columns m zero es ks = ((λ t j lt. absurd (omega arith)), λ f. tt)
 zero-columns m (suc n) es ks = (
-  (λ t j lt. one j (both-of-and (eqb (dot ks (column n es) % m) 0) (zeroColumns m n es ks) t)
-      (eq-or-lt-of-le {n = j} {m = n} (omega arith)) (zero-columns m n es ks)),
-  λ f. and-of-both (eqb (dot ks (column n es) % m) 0) (zeroColumns m n es ks)
+  (λ t j lt.
+      let b = and-yes (eqb (dot ks (column n es) % m) 0) (zeroColumns m n es ks) t in
+      below-more (λ j. Congruent m (dot ks (column j es)) 0) n (zero-columns m n es ks .0 (b .1))
+      (remainder-zero m (dot ks (column n es)) .0 (b .0)) j (omega arith)),
+  λ f. yes-and (eqb (dot ks (column n es) % m) 0) (zeroColumns m n es ks)
       (remainder-zero m (dot ks (column n es)) .1 (f n (omega arith)))
       (zero-columns m n es ks .1 (λ j lt. f j (omega arith))),
 )
-  where
-    one : (j : ℕ) → T (eqb (dot ks (column n es) % m) 0) × T (zeroColumns m n es ks) → (j ≡ n) ⊎ (j < n)
-        → T (zeroColumns m n es ks) ↔ ((j : ℕ) → j < n → Congruent m (dot ks (column j es)) 0)
-        → Congruent m (dot ks (column j es)) 0
-    one j b (inl e) rest = rw e (remainder-zero m (dot ks (column n es)) .0 (b .0))
-    one j b (inr lt) rest = rest .0 (b .1) j lt
 
 abbrev stays : ℕ → List Equation → List ℕ → Bool
 stays m es ks = not (eqb (dot ks (rights es) % m) 0)
@@ -70,9 +58,9 @@ pub refutes-is : (m n : ℕ) (es : List Equation) (ks : List ℕ) → T (refutes
 unfolding refutes
 refutes-is m n es ks = (
   (λ t.
-      let d = both-of-and (eqb (length ks) (length es) && allBelow m ks && zeroColumns m n es ks) (stays m es ks) t in
-      let c = both-of-and (eqb (length ks) (length es) && allBelow m ks) (zeroColumns m n es ks) (d .0) in
-      let b = both-of-and (eqb (length ks) (length es)) (allBelow m ks) (c .0) in
+      let d = and-yes (eqb (length ks) (length es) && allBelow m ks && zeroColumns m n es ks) (stays m es ks) t in
+      let c = and-yes (eqb (length ks) (length es) && allBelow m ks) (zeroColumns m n es ks) (d .0) in
+      let b = and-yes (eqb (length ks) (length es)) (allBelow m ks) (c .0) in
       record {
         one-each = eqb→eq (length ks) (length es) (b .0);
         below = all-below m ks .0 (b .1);
@@ -80,9 +68,9 @@ refutes-is m n es ks = (
         right = λ z. T-not (eqb (dot ks (rights es) % m) 0) (d .1) (remainder-zero m (dot ks (rights es)) .1 z);
       }),
   λ r.
-      and-of-both (eqb (length ks) (length es) && allBelow m ks && zeroColumns m n es ks) (stays m es ks)
-      (and-of-both (eqb (length ks) (length es) && allBelow m ks) (zeroColumns m n es ks)
-      (and-of-both (eqb (length ks) (length es)) (allBelow m ks) (eqb-of (length ks) (length es) (r .one-each))
+      yes-and (eqb (length ks) (length es) && allBelow m ks && zeroColumns m n es ks) (stays m es ks)
+      (yes-and (eqb (length ks) (length es) && allBelow m ks) (zeroColumns m n es ks)
+      (yes-and (eqb (length ks) (length es)) (allBelow m ks) (yes-eqb (r .one-each))
       (all-below m ks .1 (r .below)))
       (zero-columns m n es ks .1 (r .columns)))
       (not-T (eqb (dot ks (rights es) % m) 0) (λ t. r .right (remainder-zero m (dot ks (rights es)) .0 t))),
@@ -113,7 +101,8 @@ left-zero : (m : ℕ) (es : List Equation) (ks v : List ℕ) (j : ℕ)
     → ((i : ℕ) → i < j + length v → Congruent m (dot ks (column i es)) 0)
     → Congruent m (dot ks (map (λ e. dot (drop j (e .coefficients)) v) es)) 0
 left-zero m es ks [] j f =
-    congruent-of-eq (total-zero ks (λ e. dot (drop j (e .coefficients)) []) es (λ e. dot-nil (drop j (e .coefficients))))
+    congruent-of-eq
+    (total-zero ks (λ e. dot (drop j (e .coefficients)) []) es (λ e. dot-nil (drop j (e .coefficients))))
 left-zero m es ks (x ∷ v) j f =
     congruent-trans
     (congruent-of-eq

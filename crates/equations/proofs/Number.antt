@@ -1,5 +1,5 @@
--- The number of members of a closed set, and of the solutions, is the product of the ranges. The members with the head t·d are
--- the members with head 0, shifted by t times the step; and there is no other head.
+-- The number of members of a closed set, and of the solutions, is the product of the ranges. The members with the head
+-- t·d are the members with head 0, shifted by t times the step; and there is no other head.
 --   count-members     of a closed set
 --   count-solutions   of the solutions
 use mathlib.Core.Path.{_≡_, refl, ap, ap₂, _∙_, sym, subst}
@@ -46,9 +46,10 @@ module _ (m n : ℕ) (p : List ℕ → Bool) (pos : 0 < m) (closed : Closed m (s
 
       down : (v : List ℕ) → Vector m n v → T (p (i * d ∷ combine m 1 i v r)) → T (p (0 ∷ v))
       down v vec t =
-          subst (λ (z : List ℕ). T (p (0 ∷ z))) (combine-undo m n i (negative m i) pos (negative-is m i pos) v r vec (s .rest))
-          (take-step m n p pos closed s i (negative m i) (i * d) (combine m 1 i v r) (negative-is m i pos) (mul-comm i d) lt
-          (vector-combine m n 1 i v r pos vec (s .rest)) t)
+          subst (λ (z : List ℕ). T (p (0 ∷ z)))
+          (combine-undo m n i (negative m i) pos (negative-is m i pos) v r vec (s .rest))
+          (take-step m n p pos closed s i (negative m i) (i * d) (combine m 1 i v r) (negative-is m i pos)
+          (mul-comm i d) lt (vector-combine m n 1 i v r pos vec (s .rest)) t)
 
   count-no-head : (y : ℕ) → ((v : List ℕ) → Vector m n v → T (p (y ∷ v)) → ⊥) → countAt m n p y ≡ 0
   count-no-head y f = count-none m n (λ v. p (y ∷ v)) (λ v vec. false-of (p (y ∷ v)) (f v vec))
@@ -97,8 +98,5 @@ count-solutions m n es c pos h =
 
     down : (v : List ℕ) → Vector m n v → T (solves m es (combine m 1 1 v c)) → T (solves m (homogeneous es) v)
     down v vec t =
-        let w = combine m 1 1 v c in
-        subst (λ (z : List ℕ). T (solves m (homogeneous es) z))
-        (combine-undo m n 1 (negative m 1) pos (negative-is m 1 pos) v c vec (start .0))
-        (difference-solves m w c (vector-same-length m n w c (vector-combine m n 1 1 v c pos vec (start .0)) (start .0)) pos es t
-        (start .1))
+        difference-solves m c v (vector-same-length m n c v (start .0) vec) es (start .1)
+        (subst (λ (z : List ℕ). T (solves m es z)) (combine-comm m v c) t)

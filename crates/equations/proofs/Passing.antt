@@ -22,7 +22,8 @@ pub vector-of-within : (m : ℕ) (ss : List (List ℕ)) (ts : List ℕ) → With
 vector-of-within m [] [] w = tt
 vector-of-within m [] (t ∷ ts) w = absurd w
 vector-of-within m (s ∷ ss) [] w = absurd w
-vector-of-within m (s ∷ ss) (t ∷ ts) w = (omega (arith, w .0, div-le-self m (leading s)), vector-of-within m ss ts (w .1))
+vector-of-within m (s ∷ ss) (t ∷ ts) w =
+    (omega (arith, w .0, div-le-self m (leading s)), vector-of-within m ss ts (w .1))
 
 pub answer-passes : (m n : ℕ) (es : List Equation) (c : List ℕ) → 0 < m → startOf m n es ≡ some c
     → T (passes m n es (from c (stepsOf m n es)))

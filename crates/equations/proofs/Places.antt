@@ -7,12 +7,12 @@ use mathlib.Core.Bool.{Bool, false}
 use Prim.Native.Nat.{ℕ, zero, suc, _<_}
 use lib.ListN.{getD}
 use lib.Dec.{T}
+use mir.Facts.{and-yes}
 use Rattle.residue.specs.Divides.{Divides}
 use Rattle.equations.specs.Lists.{first}
 use Rattle.equations.specs.Vectors.{Vector, vectors}
 use Rattle.equations.specs.Equation.{Equation, solves, homogeneous}
 use Rattle.equations.specs.Answer.{leading, stepAt}
-use Rattle.equations.proofs.Truth.{both-of-and}
 use Rattle.equations.proofs.Search.{first-holds}
 use Rattle.equations.proofs.Closed.{Closed, closed-rest, Head, stepped, unstepped, head-of}
 use Rattle.equations.proofs.Steps.{stepTest, zeroFirst, step-shift}
@@ -22,7 +22,8 @@ use Rattle.equations.proofs.Answer.{solutions-closed}
 abbrev Entry : ℕ → ℕ → List ℕ → Type 0
 Entry m j s = (leading s ≡ getD s j 0) × Divides (getD s j 0) m
 
-entry-head : {m n : ℕ} {p : List ℕ → Bool} {o : Option (List ℕ)} → Head m n p o → (s : List ℕ) → o ≡ some s → Entry m 0 s
+entry-head : {m n : ℕ} {p : List ℕ → Bool} {o : Option (List ℕ)} → Head m n p o → (s : List ℕ) → o ≡ some s
+    → Entry m 0 s
 entry-head {m} (stepped d r st) s h =
     subst (Entry m 0) (Option·some-injective (d ∷ r) s h) (leading-head d r (st .positive), st .modulus)
 entry-head (unstepped f) s h = absurd (Option·none-ne-some s h)
@@ -32,7 +33,7 @@ entry-in : (m n j : ℕ) (p : List ℕ → Bool) → 0 < m → Closed m n p → 
 entry-in m zero j p pos closed s h = absurd (nothing s (first-holds m zero (stepTest p j) s h))
   where
     nothing : (s : List ℕ) → Vector m zero s × T (stepTest p j s) → ⊥
-    nothing [] t = both-of-and (p []) false (t .1) .1
+    nothing [] t = and-yes (p []) false (t .1) .1
     nothing (x ∷ s) t = t .0
 entry-in m (suc n) zero p pos closed s h = entry-head (head-of m n p pos closed) s h
 entry-in m (suc n) (suc j) p pos closed s h =

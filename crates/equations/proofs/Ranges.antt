@@ -8,13 +8,12 @@ use mathlib.Core.Path.{_≡_, refl, ap, _∙_, subst}
 use mathlib.Core.List.{List, [], _∷_, map}
 use mathlib.Core.Bool.{Bool}
 use Prim.Native.Nat.{ℕ, zero, suc, _+_, _*_, _/_, _%_, _<_}
-use native.Mathlib.Nat.{zero-mod, lt-of-mul-lt-mul-left, mul-lt-mul-of-pos-left}
+use native.Mathlib.Nat.{zero-mod, div-eq-of-eq-mul-right, lt-of-mul-lt-mul-left, mul-lt-mul-of-pos-left}
 use native.Mathlib.Omega.{arith}
 use lib.ListN.{replicate}
 use lib.Dec.{T}
 use Rattle.residue.specs.Congruent.{Congruent}
-use Rattle.residue.proofs.Congruent.{congruent-of-eq, congruent-refl, congruent-trans, congruent-mul}
-use Rattle.residue.proofs.Divides.{factor-div}
+use Rattle.residue.proofs.Congruent.{congruent-of-eq, congruent-trans, remainder-of-congruent, congruent-absorb}
 use Rattle.equations.specs.Vectors.{Vector, combine, combination}
 use Rattle.equations.specs.Answer.{leading, rangeOf}
 use Rattle.equations.specs.Promises.{Within}
@@ -28,7 +27,8 @@ leading-head (suc d) r pos = refl
 pub range-head : {m n : ℕ} {p : List ℕ → Bool} {d : ℕ} {r : List ℕ} (s : HeadStep m n p d r)
     → rangeOf m (d ∷ r) ≡ s .modulus .quotient
 range-head {m} {d = d} {r = r} s =
-    ap (λ (z : ℕ). m / z) (leading-head d r (s .positive)) ∙ factor-div d (s .modulus .quotient) (s .positive) (s .modulus .eq)
+    ap (λ (z : ℕ). m / z) (leading-head d r (s .positive))
+    ∙ div-eq-of-eq-mul-right (s .positive) (s .modulus .eq)
 
 -- a coefficient is within the range of d ∷ r exactly when its multiple of d is a residue
 pub multiple-below : {m n : ℕ} {p : List ℕ → Bool} {d : ℕ} {r : List ℕ} (s : HeadStep m n p d r) (t : ℕ)
@@ -69,14 +69,14 @@ spanned-map m n (s ∷ ss) (t ∷ ts) =
     ∙ ap (λ (z : ℕ). z ∷ combine m 1 t (spanned m n ss ts) s) (ap (λ (z : ℕ). z % m) (omega arith) ∙ zero-mod m)
 
 -- a member less its multiple of the step: the head is gone
-pub take-step : (m n : ℕ) (p : List ℕ → Bool) → 0 < m → Closed m (suc n) p → {d : ℕ} {r : List ℕ} (s : HeadStep m n p d r)
+pub take-step : (m n : ℕ) (p : List ℕ → Bool) → 0 < m → Closed m (suc n) p
+    → {d : ℕ} {r : List ℕ} (s : HeadStep m n p d r)
     → (q k x : ℕ) (w : List ℕ) → Congruent m (q + k) 0 → x ≡ d * q → x < m → Vector m n w → T (p (x ∷ w))
     → T (p (0 ∷ combine m 1 k w r))
 take-step m n p pos closed {d} {r} s q k x w opposite e lt vec t =
-    subst (λ (z : ℕ). T (p (z ∷ combine m 1 k w r))) (gone .same ∙ zero-mod m)
+    subst (λ (z : ℕ). T (p (z ∷ combine m 1 k w r))) (remainder-of-congruent gone)
     (closed .combined 1 k (x ∷ w) (d ∷ r) (lt, vec) (s .below, s .rest) t (s .holds))
   where
     gone : Congruent m (1 * x + k * d) 0
     gone =
-        congruent-trans {b = (q + k) * d} (congruent-of-eq (omega arith))
-        (congruent-trans (congruent-mul opposite (congruent-refl {a = d})) (congruent-of-eq (omega arith)))
+        congruent-trans {b = 0 + (q + k) * d} (congruent-of-eq (omega arith)) (congruent-absorb 0 d opposite)

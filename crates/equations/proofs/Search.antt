@@ -10,12 +10,13 @@ use mathlib.Core.List.{List, [], _∷_}
 use mathlib.Core.Option.{none, some, Option·none-ne-some, Option·some-ne-none, Option·some-injective}
 use mathlib.Core.Bool.{Bool, true, false}
 use Prim.Native.Nat.{ℕ, zero, suc, _+_, _<_}
-use native.Mathlib.Nat.{eq-or-lt-of-le}
 use native.Mathlib.Omega.{arith}
 use lib.Dec.{T}
+use borrow.Author.Count.{below-more}
 use Rattle.equations.specs.Lists.{first}
 use Rattle.equations.specs.Vectors.{Vector, Before, vectors}
 use Rattle.equations.proofs.Truth.{of-true, of-false, true-or-false}
+use Rattle.equations.proofs.Vectors.{nothing-before-zeros}
 use Rattle.equations.proofs.First.{first-none, first-is}
 
 pub record First (m n : ℕ) (p : List ℕ → Bool) (v : List ℕ) : Type 0 where
@@ -37,20 +38,21 @@ scan : (m n : ℕ) (p : List ℕ → Bool) → ((x : ℕ) → Search m n (λ v. 
 scan m n p at x zero e below = inr (by-head m n p (λ y w lt. below y w (omega arith)))
 scan m n p at x (suc k) e below = go (at x) (scan m n p at (suc x) k (omega arith))
   where
-    least : (v : List ℕ) → First m n (λ v. p (x ∷ v)) v → (w : List ℕ) → Vector m (suc n) w → Before w (x ∷ v) → p w ≡ false
+    least : (v : List ℕ) → First m n (λ v. p (x ∷ v)) v → (w : List ℕ) → Vector m (suc n) w → Before w (x ∷ v)
+        → p w ≡ false
     least v f [] vec b = absurd vec
     least v f (y ∷ w) vec (inl lt) = below y w lt (vec .1)
     least v f (y ∷ w) vec (inr b) = rw (b .0) (f .least w (vec .1) (b .1))
 
-    more : ((w : List ℕ) → Vector m n w → p (x ∷ w) ≡ false) → (y : ℕ) (w : List ℕ) → (y ≡ x) ⊎ (y < x) → Vector m n w
-        → p (y ∷ w) ≡ false
-    more fails y w (inl eq) vec = rw eq (fails w vec)
-    more fails y w (inr lt) vec = below y w lt vec
-
     go : Search m n (λ v. p (x ∷ v))
-        → (((y : ℕ) (w : List ℕ) → y < suc x → Vector m n w → p (y ∷ w) ≡ false) → Search m (suc n) p) → Search m (suc n) p
-    go (inl (v, f)) next = inl (x ∷ v, record { vector = (omega arith, f .vector); holds = f .holds; least = least v f })
-    go (inr fails) next = next (λ y w lt. more fails y w (eq-or-lt-of-le (omega arith)))
+        → (((y : ℕ) (w : List ℕ) → y < suc x → Vector m n w → p (y ∷ w) ≡ false) → Search m (suc n) p)
+        → Search m (suc n) p
+    go (inl (v, f)) next =
+        inl (x ∷ v, record { vector = (omega arith, f .vector); holds = f .holds; least = least v f })
+    go (inr fails) next =
+        next
+        (λ y w lt. below-more (λ y. (w : List ℕ) → Vector m n w → p (y ∷ w) ≡ false) x (λ y lt w. below y w lt) fails y
+        (omega arith) w)
 
 pub search-vectors : (m n : ℕ) (p : List ℕ → Bool) → Search m n p
 search-vectors m zero p = go (true-or-false (p []))
@@ -59,12 +61,8 @@ search-vectors m zero p = go (true-or-false (p []))
     fails h [] vec = h
     fails h (x ∷ w) vec = absurd vec
 
-    nothing-before : (w : List ℕ) → Before w [] → ⊥
-    nothing-before [] b = b
-    nothing-before (x ∷ w) b = b
-
     go : (p [] ≡ true) ⊎ (p [] ≡ false) → Search m zero p
-    go (inl h) = inl ([], record { vector = tt; holds = h; least = λ w vec b. absurd (nothing-before w b) })
+    go (inl h) = inl ([], record { vector = tt; holds = h; least = λ w vec b. absurd (nothing-before-zeros 0 w b) })
     go (inr h) = inr (fails h)
 search-vectors m (suc n) p =
     scan m n p (λ x. search-vectors m n (λ v. p (x ∷ v))) 0 m (omega arith) (λ y w lt vec. absurd (omega arith))

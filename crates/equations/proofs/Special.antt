@@ -20,6 +20,7 @@ use Rattle.equations.specs.Claim.{Claim, describes, passes}
 use Rattle.equations.specs.Promises.{units, constant}
 use Rattle.equations.proofs.Truth.{true-of}
 use Rattle.equations.proofs.Dot.{dot-zeros}
+use Rattle.equations.proofs.Vectors.{nothing-before-zeros}
 use Rattle.equations.proofs.First.{first-is}
 use Rattle.equations.proofs.Solving.{solves-congruent, solves-all}
 use Rattle.equations.proofs.Combine.{vector-zeros}
@@ -52,13 +53,6 @@ module _ (m n : ℕ) (es fs : List Equation) where
 
 -- ---- no equations
 
-nothing-before-zeros : (n : ℕ) (w : List ℕ) → Before w (replicate n 0) → ⊥
-nothing-before-zeros zero [] b = b
-nothing-before-zeros zero (x ∷ w) b = b
-nothing-before-zeros (suc n) [] b = b
-nothing-before-zeros (suc n) (x ∷ w) (inl lt) = omega arith
-nothing-before-zeros (suc n) (x ∷ w) (inr b) = nothing-before-zeros n w (b .1)
-
 pub none-start : (m n : ℕ) → 0 < m → startOf m n [] ≡ some (replicate n 0)
 unfolding startOf
 none-start m n pos =
@@ -88,7 +82,8 @@ zero-true : (m k : ℕ) (v : List ℕ) → solvesOne m (constant k 0) v ≡ true
 zero-true m k v =
     true-of (solvesOne m (constant k 0) v) (solves-congruent m (constant k 0) v .1 (congruent-of-eq (dot-zeros k v)))
 
-pub zero-solves : (m k : ℕ) (es fs : List Equation) (v : List ℕ) → solves m (es ++ (constant k 0 ∷ fs)) v ≡ solves m (es ++ fs) v
+pub zero-solves : (m k : ℕ) (es fs : List Equation) (v : List ℕ)
+    → solves m (es ++ (constant k 0 ∷ fs)) v ≡ solves m (es ++ fs) v
 zero-solves m k [] fs v = ap (λ (b : Bool). b && solves m fs v) (zero-true m k v)
 zero-solves m k (e ∷ es) fs v = ap (λ (b : Bool). solvesOne m e v && b) (zero-solves m k es fs v)
 
@@ -103,10 +98,13 @@ zero-homogeneous m k es fs =
     ∙ fun-ext (zero-solves m k (homogeneous es) (homogeneous fs))
     ∙ sym (ap (solves m) (homogeneous-append es fs))
 
-pub contradiction-none : (m n k b : ℕ) (es fs : List Equation) → 0 < b → b < m → startOf m n (es ++ (constant k b ∷ fs)) ≡ none
+pub contradiction-none : (m n k b : ℕ) (es fs : List Equation) → 0 < b → b < m
+    → startOf m n (es ++ (constant k b ∷ fs)) ≡ none
 contradiction-none m n k b es fs pos lt =
     start-none m n (es ++ (constant k b ∷ fs)) .1
     (λ v vec t.
-    let c = solves-all m (es ++ (constant k b ∷ fs)) v .0 t (constant k b) (Memᴰ·append-right es (List·Memᴰ·head refl)) in
+    let c =
+    solves-all m (es ++ (constant k b ∷ fs)) v .0 t (constant k b) (Memᴰ·append-right es (List·Memᴰ·head refl))
+    in
     let z : 0 ≡ b = congruent-small (omega arith) lt (congruent-trans (congruent-of-eq (sym (dot-zeros k v))) c) in
     omega arith)

@@ -1,4 +1,5 @@
--- The steps by recursion on the unknowns: the step at the first place, then the steps of the vectors whose first entry is 0.
+-- The steps by recursion on the unknowns: the step at the first place, then the steps
+-- of the vectors whose first entry is 0.
 --   stepsIn         the steps of the vectors that pass a test, so defined
 --   step-shift      the step at a later place is a step one place earlier, behind a 0
 --   steps-of-in     01's steps are these, for the solutions with right sides 0
@@ -10,11 +11,12 @@ use mathlib.Core.Bool.{Bool, false, _&&_}
 use Prim.Native.Nat.{ℕ, zero, suc, _<_}
 use native.Mathlib.Omega.{arith}
 use lib.Dec.{T, eqb, eqb→eq}
+use mir.Facts.{and-yes, yes-and}
 use Rattle.equations.specs.Lists.{first}
 use Rattle.equations.specs.Vectors.{Vector, Before, vectors}
 use Rattle.equations.specs.Equation.{Equation, solves, homogeneous}
 use Rattle.equations.specs.Answer.{leadsAt, stepAt, andThen, stepsFrom, stepsOf}
-use Rattle.equations.proofs.Truth.{false-of, of-false, both-of-and, and-of-both}
+use Rattle.equations.proofs.Truth.{false-of, of-false}
 use Rattle.equations.proofs.First.{first-none, first-is}
 use Rattle.equations.proofs.Search.{First, Search, search-vectors}
 use Rattle.equations.proofs.Closed.{headTest}
@@ -34,10 +36,10 @@ stepsIn m (suc n) p =
 module _ (m n j : ℕ) (p : List ℕ → Bool) (pos : 0 < m) where
   shifted : (x : ℕ) (w : List ℕ) → T (stepTest p (suc j) (x ∷ w)) → (x ≡ 0) × T (stepTest (λ v. p (0 ∷ v)) j w)
   shifted x w t =
-      let b = both-of-and (p (x ∷ w)) (eqb x 0 && leadsAt j w) t in
-      let l = both-of-and (eqb x 0) (leadsAt j w) (b .1) in
+      let b = and-yes (p (x ∷ w)) (eqb x 0 && leadsAt j w) t in
+      let l = and-yes (eqb x 0) (leadsAt j w) (b .1) in
       let e : x ≡ 0 = eqb→eq x 0 (l .0) in
-      (e, and-of-both (p (0 ∷ w)) (leadsAt j w) (subst (λ (z : ℕ). T (p (z ∷ w))) e (b .0)) (l .1))
+      (e, yes-and (p (0 ∷ w)) (leadsAt j w) (subst (λ (z : ℕ). T (p (z ∷ w))) e (b .0)) (l .1))
 
   pub step-shift : first (stepTest p (suc j)) (vectors m (suc n))
       ≡ Option·map zeroFirst (first (stepTest (λ v. p (0 ∷ v)) j) (vectors m n))
@@ -60,7 +62,8 @@ module _ (m n j : ℕ) (p : List ℕ → Bool) (pos : 0 < m) where
           ≡ Option·map zeroFirst (first (stepTest (λ v. p (0 ∷ v)) j) (vectors m n))
       go (inl (v, f)) =
           first-is m (suc n) (stepTest p (suc j)) (0 ∷ v) (pos, f .vector) (f .holds) (least v f)
-          ∙ sym (ap (Option·map zeroFirst) (first-is m n (stepTest (λ v. p (0 ∷ v)) j) v (f .vector) (f .holds) (f .least)))
+          ∙ sym (ap (Option·map zeroFirst)
+          (first-is m n (stepTest (λ v. p (0 ∷ v)) j) v (f .vector) (f .holds) (f .least)))
       go (inr f) =
           first-none m (suc n) (stepTest p (suc j)) (fails f)
           ∙ sym (ap (Option·map zeroFirst) (first-none m n (stepTest (λ v. p (0 ∷ v)) j) f))
@@ -90,7 +93,8 @@ along-in m (suc n) p pos =
     ap (andThen (first (headTest p) (vectors m (suc n))))
     (along-shift m n p pos 0 n ∙ ap (map zeroFirst) (along-in m n (λ v. p (0 ∷ v)) pos))
 
-from-along : (m n : ℕ) (es : List Equation) (j k : ℕ) → stepsFrom m n es j k ≡ stepsAlong m n (solves m (homogeneous es)) j k
+from-along : (m n : ℕ) (es : List Equation) (j k : ℕ)
+    → stepsFrom m n es j k ≡ stepsAlong m n (solves m (homogeneous es)) j k
 unfolding stepAt
 from-along m n es j zero = refl
 from-along m n es j (suc k) = ap (andThen (stepAt m n es j)) (from-along m n es (suc j) k)

@@ -7,10 +7,10 @@
 --   sum-multiples   e multiples of d below e·d
 use mathlib.Core.Path.{_≡_, refl, ap, ap₂, _∙_, sym}
 use Prim.Native.Nat.{ℕ, zero, suc, _+_, _-_, _*_, _%_, _≤_, _<_}
-use native.Mathlib.Nat.{mod-eq-of-lt, zero-mod, lt-of-mul-lt-mul-right}
+use native.Mathlib.Nat.{mod-eq-of-lt, lt-of-mul-lt-mul-right}
 use native.Mathlib.Omega.{arith}
 use Rattle.residue.specs.Congruent.{Congruent}
-use Rattle.residue.proofs.Congruent.{congruent-of-eq, congruent-refl, congruent-trans, congruent-add, congruent-mod, congruent-multiple}
+use Rattle.residue.proofs.Congruent.{congruent-of-eq, congruent-refl, congruent-trans, congruent-add, congruent-mod, congruent-multiple, remainder-of-congruent}
 
 abbrev pub sum : (ℕ → ℕ) → ℕ → ℕ → ℕ
 sum f x zero = 0
@@ -51,7 +51,7 @@ rotate-one f (suc k) pos =
     turned = congruent-trans {b = 1 * suc k} (congruent-of-eq (omega arith)) (congruent-multiple 1)
 
     last : f ((k + 1) % suc k) ≡ f 0
-    last = ap f (turned .same ∙ zero-mod (suc k))
+    last = ap f (remainder-of-congruent turned)
 
     others : sum (λ y. f ((y + 1) % suc k)) 0 k ≡ sum f 1 k
     others =
@@ -70,7 +70,8 @@ sum-rotate f m (suc a) pos =
   where
     turned : (y : ℕ) → Congruent m ((y + 1) % m + a) (y + suc a)
     turned y =
-        congruent-trans (congruent-add (congruent-mod m (y + 1)) (congruent-refl {a = a})) (congruent-of-eq (omega arith))
+        congruent-trans (congruent-add (congruent-mod m (y + 1)) (congruent-refl {a = a}))
+        (congruent-of-eq (omega arith))
 
 -- ---- at multiples only
 
@@ -100,6 +101,7 @@ module _ (f : ℕ → ℕ) (d c : ℕ) (pos : 0 < d) where
       omega (
         arith,
         sum-append f 0 (e * d) d m (e * d) (omega arith) (omega arith),
-        sum-multiples e (e * d) refl (λ i lt. at i (omega arith)) (λ y lt no-multiple. others y (omega arith) no-multiple),
+        sum-multiples e (e * d) refl (λ i lt. at i (omega arith))
+            (λ y lt no-multiple. others y (omega arith) no-multiple),
         block e (at e (omega arith)) (λ y lt no-multiple. others y (omega arith) no-multiple),
       )

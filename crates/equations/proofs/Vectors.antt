@@ -3,15 +3,26 @@
 --   vector-same-length             two vectors have the same length
 --   vector-of                      such a list is a vector
 --   below-combine                  a combination mod m has entries below m
+--   below-zeros                    zeros are below m
+--   all-below                      `allBelow` is the test of that
+--   all-below-on, all-below-stop   one number more is looked at: it is below m, or it is not
 --   before-asym, before-irrefl     the order is strict
+--   nothing-before-zeros           and begins with the zeros
 use mathlib.Core.Path.{_≡_, refl, sym, ap, _∙_}
-use mathlib.Core.Logic.{inl, inr}
+use mathlib.Core.Logic.{inl, inr, _↔_}
 use mathlib.Core.List.{List, [], _∷_}
-use Prim.Native.Nat.{ℕ, zero, suc, _<_}
+use mathlib.Core.Bool.{false}
+use Prim.Native.Nat.{ℕ, zero, suc, _+_, _≤_, _<_}
 use native.Mathlib.Nat.{suc-inj, mod-lt}
+use native.Mathlib.Numerals.{add-one}
 use native.Mathlib.Omega.{arith}
-use lib.ListN.{length}
+use lib.ListN.{length, drop, getD, replicate}
+use lib.Seq.{drop-cons}
+use lib.Dec.{T, ltb, ltb→lt, lt→ltb}
+use mir.Facts.{and-yes, yes-and}
+use borrow.Author.Tests.{lt-ltb, le-ltb}
 use Rattle.equations.specs.Vectors.{Vector, Below, Before, combine}
+use Rattle.equations.specs.Multipliers.{allBelow}
 
 pub vector-length : (m n : ℕ) (v : List ℕ) → Vector m n v → length v ≡ n
 vector-length m zero [] h = refl
@@ -39,6 +50,24 @@ below-combine m s t [] w pos = tt
 below-combine m s t (x ∷ v) [] pos = tt
 below-combine m s t (x ∷ v) (y ∷ w) pos = (mod-lt _ pos, below-combine m s t v w pos)
 
+pub below-zeros : (m j : ℕ) → 0 < m → Below m (replicate j 0)
+below-zeros m zero pos = tt
+below-zeros m (suc j) pos = (pos, below-zeros m j pos)
+
+pub all-below : (m : ℕ) (ks : List ℕ) → T (allBelow m ks) ↔ Below m ks
+all-below m [] = ((λ t. tt), λ b. tt)
+all-below m (k ∷ ks) = (
+  (λ t. let b = and-yes (ltb k m) (allBelow m ks) t in (ltb→lt k m (b .0), all-below m ks .0 (b .1))),
+  λ b. yes-and (ltb k m) (allBelow m ks) (lt→ltb k m (b .0)) (all-below m ks .1 (b .1)),
+)
+
+module _ (m : ℕ) (xs : List ℕ) (i : ℕ) (at : i < length xs) where
+  pub all-below-on : getD xs i 0 < m → allBelow m (drop i xs) ≡ allBelow m (drop (i + 1) xs)
+  all-below-on h = rw (add-one, drop-cons xs i 0 at, lt-ltb (getD xs i 0) m h)
+
+  pub all-below-stop : m ≤ getD xs i 0 → allBelow m (drop i xs) ≡ false
+  all-below-stop h = rw (drop-cons xs i 0 at, le-ltb (getD xs i 0) m h)
+
 pub before-asym : (v w : List ℕ) → Before v w → Before w v → ⊥
 before-asym [] w p q = p
 before-asym (x ∷ v) [] p q = p
@@ -51,3 +80,10 @@ pub before-irrefl : (v : List ℕ) → Before v v → ⊥
 before-irrefl [] p = p
 before-irrefl (x ∷ v) (inl p) = omega arith
 before-irrefl (x ∷ v) (inr p) = before-irrefl v (p .1)
+
+pub nothing-before-zeros : (n : ℕ) (w : List ℕ) → Before w (replicate n 0) → ⊥
+nothing-before-zeros zero [] b = b
+nothing-before-zeros zero (x ∷ w) b = b
+nothing-before-zeros (suc n) [] b = b
+nothing-before-zeros (suc n) (x ∷ w) (inl lt) = omega arith
+nothing-before-zeros (suc n) (x ∷ w) (inr b) = nothing-before-zeros n w (b .1)

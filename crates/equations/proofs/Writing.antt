@@ -1,5 +1,5 @@
--- Each member of a closed set is a combination of the set's steps, and within the coefficients' ranges in one way only. The
--- coefficient of a place's step is settled by the entry at that place; what is left has one place less.
+-- Each member of a closed set is a combination of the set's steps, and within the coefficients' ranges in one way only.
+-- The coefficient of a place's step is settled by the entry at that place; what is left has one place less.
 --   Member              a vector that passes the set's test
 --   combination-holds   every combination of the steps is a member
 --   writing             every member is one
@@ -14,11 +14,11 @@ use native.Mathlib.Omega.{arith}
 use lib.ListN.{replicate}
 use lib.Dec.{T}
 use Rattle.residue.specs.Negative.{negative}
-use Rattle.residue.proofs.Negative.{negative-is}
+use Rattle.residue.proofs.Negative.{negative-is, negative-opposite}
 use Rattle.equations.specs.Vectors.{Vector, combine}
 use Rattle.equations.specs.Answer.{andThen}
 use Rattle.equations.specs.Promises.{Within, Written}
-use Rattle.equations.proofs.Combine.{vector-combine, vector-zeros, negative-opposite, combine-undo, combine-cancel}
+use Rattle.equations.proofs.Combine.{vector-combine, vector-zeros, combine-undo, combine-cancel}
 use Rattle.equations.proofs.Closed.{Closed, closed-rest, HeadStep, Head, stepped, unstepped, head-of}
 use Rattle.equations.proofs.Steps.{stepsIn, zeroFirst}
 use Rattle.equations.proofs.Ranges.{multiple-below, within-of-multiple, within-map, within-unmap, spanned, spanned-map, take-step}

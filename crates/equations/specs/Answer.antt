@@ -1,5 +1,5 @@
--- Document 01's answer to a list of equations in n unknowns mod m: the starting vector, the steps, and the ranges of their
--- coefficients. Definitions only.
+-- Document 01's answer to a list of equations in n unknowns mod m: the starting vector, the steps, and the ranges
+-- of their coefficients. Definitions only.
 use mathlib.Core.List.{List, [], _∷_, map}
 use mathlib.Core.Option.{Option, none, some}
 use mathlib.Core.Bool.{Bool, false, _&&_, not}
@@ -22,8 +22,8 @@ leadsAt (suc j) (x ∷ v) = eqb x 0 && leadsAt j v
 abbrev pub isStep : ℕ → List Equation → ℕ → List ℕ → Bool
 isStep m es j v = solves m (homogeneous es) v && leadsAt j v
 
--- "Step at place j: among the vectors that solve all the equations with right sides put to 0, and whose first non-zero entry
--- is at j, the first in dictionary order. A place without such a vector has no step."
+-- "Step at place j: among the vectors that solve all the equations with right sides put to 0, and whose first non-zero
+-- entry is at j, the first in dictionary order. A place without such a vector has no step."
 unfoldable pub stepAt : ℕ → ℕ → List Equation → ℕ → Option (List ℕ)
 stepAt m n es j = first (isStep m es j) (vectors m n)
 

@@ -1,5 +1,5 @@
--- Tests over a finite list: the first element that passes, whether every one does, whether some one does, and how many do.
--- Definitions only.
+-- Tests over a finite list: the first element that passes, whether every one does, whether some one
+-- does, and how many do. Definitions only.
 use mathlib.Core.List.{List, [], _∷_}
 use mathlib.Core.Option.{Option, none, some}
 use mathlib.Core.Bool.{Bool, true, false, cond, _&&_, _||_}

@@ -22,8 +22,8 @@ abbrev pub zeroColumns : ℕ → ℕ → List Equation → List ℕ → Bool
 zeroColumns m zero es ks = true
 zeroColumns m (suc n) es ks = eqb (dot ks (column n es) % m) 0 && zeroColumns m n es ks
 
--- "multipliers, one residue for each equation, such that the equations so multiplied add up mod m to zero coefficients and a
--- non-zero right side"
+-- "multipliers, one residue for each equation, such that the equations so multiplied add up mod m to
+-- zero coefficients and a non-zero right side"
 unfoldable pub refutes : ℕ → ℕ → List Equation → List ℕ → Bool
 refutes m n es ks =
     eqb (length ks) (length es) && allBelow m ks && zeroColumns m n es ks && not (eqb (dot ks (rights es) % m) 0)

@@ -1,5 +1,5 @@
--- Demand 2 about the definitions, in the customer's words and document 01's. Each promise is a type; proofs/Promises.antt
--- keeps it. Definitions only.
+-- Demand 2 about the definitions, in the customer's words and document 01's. Each promise is a type;
+-- proofs/Promises.antt keeps it. Definitions only.
 use mathlib.Core.Path.{_≡_}
 use mathlib.Core.Logic.{_↔_}
 use mathlib.Core.List.{List, [], _∷_, _++_, map}
@@ -51,7 +51,8 @@ Counted =
     (m n : ℕ) (es : List Equation) (c : List ℕ) → 0 < m → startOf m n es ≡ some c
     → count (solves m es) (vectors m n) ≡ rangeProduct m (stepsOf m n es)
 
--- the answer, handed in as a claim, is marked "pass": the start with all the steps, or no solution where there is no start
+-- the answer, handed in as a claim, is marked "pass": the start with all the steps,
+-- or no solution where there is no start
 abbrev pub OwnAnswer : Type 0
 OwnAnswer =
     (m n : ℕ) (es : List Equation) → 0 < m
@@ -60,7 +61,9 @@ OwnAnswer =
 
 -- there is no starting vector exactly when "no vector of residues solves all those equations"
 abbrev pub NoStart : Type 0
-NoStart = (m n : ℕ) (es : List Equation) → (startOf m n es ≡ none) ↔ ((v : List ℕ) → Vector m n v → T (solves m es v) → ⊥)
+NoStart =
+    (m n : ℕ) (es : List Equation)
+    → (startOf m n es ≡ none) ↔ ((v : List ℕ) → Vector m n v → T (solves m es v) → ⊥)
 
 -- multipliers that refute the equations leave no solution
 abbrev pub Refuted : Type 0
@@ -71,8 +74,8 @@ abbrev pub units : ℕ → List (List ℕ)
 units zero = []
 units (suc n) = (1 ∷ replicate n 0) ∷ map (λ (v : List ℕ). 0 ∷ v) (units n)
 
--- "With no equations the starting vector is all zeros and the steps are the n unit vectors." For every m that 01 allows; with
--- m = 1 there is no residue but 0, and no step.
+-- "With no equations the starting vector is all zeros and the steps are the n unit vectors." For every m that 01
+-- allows; with m = 1 there is no residue but 0, and no step.
 abbrev pub NoEquations : Type 0
 NoEquations = (m n : ℕ) → 1 < m → (startOf m n [] ≡ some (replicate n 0)) × (stepsOf m n [] ≡ units n)
 

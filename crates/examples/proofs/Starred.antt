@@ -1,5 +1,5 @@
--- The starred examples of document 01, in the paper's order: each a theorem about the definitions that the contracts cite.
--- All but the last two are found by computing these definitions.
+-- The starred examples of document 01, in the paper's order: each a theorem about the definitions that the contracts
+-- cite. All but the last two are found by computing these definitions.
 use mathlib.Core.Bool.{true, false}
 use mathlib.Core.List.{List, [], _∷_}
 use mathlib.Core.Option.{none, some}

@@ -31,7 +31,8 @@ congruenceReply a b m = solvedReply (congruenceOf a b m)
 abbrev pub largestNumber : ℕ
 largestNumber = 4294967295
 
--- "m in 2..4,294,967,295? 2. n 1..16? 3. `lines` a multiple of n+1 long? 1. At most 16 lines? 5. All numbers below m? 6."
+-- "m in 2..4,294,967,295? 2. n 1..16? 3. `lines` a multiple of n+1 long? 1. At most
+-- 16 lines? 5. All numbers below m? 6."
 abbrev pub solveQuestions : ℕ → ℕ → List ℕ → List Question
 solveQuestions m n xs =
     asks 2 (leb 2 m && leb m largestNumber)

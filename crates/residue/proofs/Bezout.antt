@@ -49,7 +49,8 @@ bezout-next m a b g s t pos h = record {
   left = left-kept a (suc b) g (h .q) (h .p) (a / suc b) (a % suc b) (div-add-mod' a (suc b)) (h .left) (h .right);
   right = h .left;
   one =
-      congruent-trans (congruent-add congruent-refl (congruent-mul (congruent-mod m (s + a / suc b * (m - t))) congruent-refl))
+      congruent-trans
+      (congruent-add congruent-refl (congruent-mul (congruent-mod m (s + a / suc b * (m - t))) congruent-refl))
       (congruent-trans
       (congruent-of 0 (a / suc b * h .q)
       (one-kept m s t (m - t) (h .q) (h .p) (a / suc b) (sub-add-cancel (omega (arith, h .t-small)))))
@@ -59,11 +60,16 @@ bezout-next m a b g s t pos h = record {
 }
 
 pub cofactors-bezout : (m a b : ℕ) → 0 < m → Bezout m a b (gcd a b) (cofactors m a b .s) (cofactors m a b .t)
-cofactors-bezout m a b pos = euclid-induction (λ a b. Bezout m a b (gcd a b) (cofactors m a b .s) (cofactors m a b .t)) last next a b
+cofactors-bezout m a b pos =
+    euclid-induction (λ a b. Bezout m a b (gcd a b) (cofactors m a b .s) (cofactors m a b .t)) last next a b
   where
     last : (a : ℕ) → Bezout m a 0 (gcd a 0) (cofactors m a 0 .s) (cofactors m a 0 .t)
     last a = rw (cofactors-zero m a) (bezout-last m a (gcd a 0) pos (gcd-zero a))
 
-    next : (a b : ℕ) → Bezout m (suc b) (a % suc b) (gcd (suc b) (a % suc b)) (cofactors m (suc b) (a % suc b) .s) (cofactors m (suc b) (a % suc b) .t)
+    next : (a b : ℕ)
+        → Bezout m (suc b) (a % suc b) (gcd (suc b) (a % suc b))
+        (cofactors m (suc b) (a % suc b) .s) (cofactors m (suc b) (a % suc b) .t)
         → Bezout m a (suc b) (gcd a (suc b)) (cofactors m a (suc b) .s) (cofactors m a (suc b) .t)
-    next a b h = rw (gcd-step a (suc b) (zero-lt-suc b), cofactors-step m a (suc b) (zero-lt-suc b)) (bezout-next m a b _ _ _ pos h)
+    next a b h =
+        rw (gcd-step a (suc b) (zero-lt-suc b), cofactors-step m a (suc b) (zero-lt-suc b))
+        (bezout-next m a b _ _ _ pos h)

@@ -1,6 +1,7 @@
--- Cofactors computed forward along Euclid's chain. A cofactor z of the pair that the chain began with is s·u − t·v, where s and
--- t are the cofactors of the pair (x, y) that it has come to, and the column (u, v) is made of natural numbers: it is t·v − s·u
--- after an odd number of divisions. The sum v·x + u·y stays what it was, so the column stays small.
+-- Cofactors computed forward along Euclid's chain. A cofactor z of the pair that the chain began with is s·u − t·v,
+-- where s and t are the cofactors of the pair (x, y) that it has come to, and the column (u, v) is made of natural
+-- numbers: it is t·v − s·u after an odd number of divisions. The sum v·x + u·y stays what it was, so the column
+-- stays small.
 --   column-first, column-second   the two columns that the chain begins with
 --   column-step                   one division
 --   column-fits                   the new entry of a column is no larger than the sum
@@ -34,7 +35,8 @@ column-second m a b = record { value = congruent-of-eq (omega arith); size = ome
 signed-step : (odd : Bool) (m z s t q s′ t′ u v : ℕ) → s ≡ t′ → Congruent m (t + q * t′) s′
     → Signed odd m z s t u v → Signed (not odd) m z s′ t′ v (u + q * v)
 signed-step false m z s t q s′ t′ u v e h g =
-    congruent-trans {b = z + (t + q * t′) * v} (congruent-add congruent-refl (congruent-mul (congruent-sym h) congruent-refl))
+    congruent-trans {b = z + (t + q * t′) * v}
+    (congruent-add congruent-refl (congruent-mul (congruent-sym h) congruent-refl))
     (congruent-trans {b = z + t * v + q * t′ * v} (congruent-of-eq (omega arith))
     (congruent-trans (congruent-add g congruent-refl) (congruent-of-eq (rw e (omega arith)))))
 signed-step true m z s t q s′ t′ u v e h g =
@@ -61,7 +63,8 @@ column-step odd {m} {sum} {z} {x} {y} {u} {v} pos h c =
     let rest = cofactors m y (x % y) in
     record {
       value = signed-step odd m z _ _ (x / y) (rest .s) (rest .t) u v (ap (λ (k : Cofactors). k .s) e)
-          (rw (ap (λ (k : Cofactors). k .t) e) (next-cofactor m (rest .s) (x / y) (rest .t) (cofactors-bezout m y (x % y) pos .t-small)))
+          (rw (ap (λ (k : Cofactors). k .t) e)
+          (next-cofactor m (rest .s) (x / y) (rest .t) (cofactors-bezout m y (x % y) pos .t-small)))
           (c .value);
       size = size-step x y u v sum (x / y) (x % y) (div-add-mod' x y) (c .size);
     }
@@ -75,7 +78,8 @@ column-fits {x = x} {y = y} {u = u} {v = v} h c =
     go (suc y) r w pos e = omega (arith, e)
 
 times-one : (m u : ℕ) → Congruent m (1 % m * u) u
-times-one m u = congruent-trans (congruent-mul (congruent-mod m 1) congruent-refl) (congruent-of-eq {a = 1 * u} (omega arith))
+times-one m u =
+    congruent-trans (congruent-mul (congruent-mod m 1) congruent-refl) (congruent-of-eq {a = 1 * u} (omega arith))
 
 pub column-even : {m sum z x u v : ℕ} → z < m → Column false m sum z x 0 u v → z ≡ u % m
 column-even {m} {sum} {z} {x} {u} {v} small c =

@@ -5,16 +5,19 @@
 --   divides-mul, divides-add               multiples and sums of multiples are multiples
 --   divides-remainder                      so is the remainder of one multiple by another
 --   divides-le, divides-antisym            a divisor is no larger; divisors of each other are equal
---   factor-div                             n / d is the quotient
+--   factor-or-below, cofactor-below        of m = d·e: d is m or below it; e is below m where d is above 1
+--   factor-cancel                          and d·x ≡ 0 (mod m) says that x ≡ 0 (mod e)
 --   divides-of-congruent, congruent-of-divides   d | n is n ≡ 0 (mod d)
+--   divides-of-remainder, remainder-of-divides   and says that the remainder is 0
 --   divides-congruent                      where d | m: of two numbers congruent mod m, d divides both or none
-use mathlib.Core.Path.{_≡_, sym, ap, _∙_}
+use mathlib.Core.Path.{_≡_, sym, ap, _∙_, subst}
+use mathlib.Core.Logic.{_⊎_}
 use Prim.Native.Nat.{ℕ, zero, suc, _+_, _*_, _/_, _%_, _≤_, _<_}
-use native.Mathlib.Nat.{mul-comm, mod-mod, zero-lt-suc, div-eq-of-eq-mul-right, le-antisymm}
+use native.Mathlib.Nat.{mul-comm, mod-mod, zero-lt-suc, le-antisymm, eq-or-lt-of-le, mul-le-mul-right}
 use native.Mathlib.Omega.{arith}
 use Rattle.residue.specs.Congruent.{Congruent}
 use Rattle.residue.specs.Divides.{Divides}
-use Rattle.residue.proofs.Congruent.{congruent-of, congruent-zero, congruent-sym, congruent-trans, congruent-down}
+use Rattle.residue.proofs.Congruent.{congruent-of, congruent-of-eq, congruent-zero, congruent-sym, congruent-trans, congruent-of-remainder, remainder-of-congruent, congruent-unscale, congruent-down}
 
 pub factor-positive : (d g q : ℕ) → d ≡ g * q → 0 < d → 0 < g
 factor-positive d zero q h pos = omega (arith, h)
@@ -53,14 +56,29 @@ divides-antisym {a} {b} h g = go a b h g
     go (suc a) zero h g = omega (arith, g .eq)
     go (suc a) (suc b) h g = le-antisymm (divides-le (zero-lt-suc b) h) (divides-le (zero-lt-suc a) g)
 
-pub factor-div : {n : ℕ} (d k : ℕ) → 0 < d → n ≡ d * k → n / d ≡ k
-factor-div d k pos h = div-eq-of-eq-mul-right pos h
+pub factor-or-below : (m d e : ℕ) → 0 < m → m ≡ d * e → (d ≡ m) ⊎ (d < m)
+factor-or-below m d e pos h = eq-or-lt-of-le (divides-le pos (record { quotient = e; eq = h }))
+
+pub cofactor-below : (m d e : ℕ) → 0 < m → m ≡ d * e → 1 < d → e < m
+cofactor-below m d e pos h lt =
+    omega (arith, factor-positive m e d (h ∙ mul-comm d e) pos, mul-le-mul-right {m = 2} {n = d} e lt)
+
+pub factor-cancel : {m : ℕ} (d e x : ℕ) → 0 < m → m ≡ d * e → Congruent m (d * x) 0 → Congruent e x 0
+factor-cancel {m} d e x pos h c =
+    congruent-unscale d (factor-positive m d e h pos)
+    (subst (λ (z : ℕ). Congruent z (d * x) (d * 0)) h (congruent-trans c (congruent-of-eq (omega arith))))
 
 pub divides-of-congruent : {d n : ℕ} → Congruent d n 0 → Divides d n
 divides-of-congruent {d} {n} h = record { quotient = n / d; eq = congruent-zero h ∙ mul-comm (n / d) d }
 
 pub congruent-of-divides : {d n : ℕ} → Divides d n → Congruent d n 0
 congruent-of-divides {d} h = congruent-of 0 (h .quotient) (omega (arith, h .eq))
+
+pub divides-of-remainder : {d n : ℕ} → n % d ≡ 0 → Divides d n
+divides-of-remainder h = divides-of-congruent (congruent-of-remainder h)
+
+pub remainder-of-divides : {d n : ℕ} → Divides d n → n % d ≡ 0
+remainder-of-divides h = remainder-of-congruent (congruent-of-divides h)
 
 pub divides-congruent : {d m a b : ℕ} → Divides d m → Congruent m a b → Divides d a → Divides d b
 divides-congruent {d} h c g =

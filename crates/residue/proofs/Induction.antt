@@ -1,4 +1,5 @@
--- Induction along Euclid's chain: what holds of (a, 0), and of (a, b) where it holds of (b, a mod b), holds of all pairs.
+-- Induction along Euclid's chain: what holds of (a, 0), and of (a, b) where it holds
+-- of (b, a mod b), holds of all pairs.
 use Prim.Native.Nat.{ℕ, zero, suc, _%_, _≤_}
 use native.Mathlib.Nat.{le-refl}
 use native.Mathlib.Omega.{arith}

@@ -1,6 +1,6 @@
--- Lamé's theorem: Euclid's chain makes at most five divisions for each decimal digit of the smaller number, and one more
--- where that number comes first. Where the first number is the larger one, k + 1 divisions need a second number of at
--- least the Fibonacci number F(k + 2), and F(5·d + 2) ≥ 10^d.
+-- Lamé's theorem: Euclid's chain makes at most five divisions for each decimal digit of the smaller number, and one
+-- more where that number comes first. Where the first number is the larger one, k + 1 divisions need a second number of
+-- at least the Fibonacci number F(k + 2), and F(5·d + 2) ≥ 10^d.
 use mathlib.Core.Path.{_≡_, refl}
 use Prim.Native.Nat.{ℕ, zero, suc, _+_, _*_, _/_, _%_, _^_, min, _≤_, _<_, zero-le}
 use native.Mathlib.Nat.{div-add-mod', mod-lt, zero-lt-suc, le-refl, le-of-lt, le-div-iff-mul-le, mul-le-mul-right, mod-eq-of-lt, mod-self, min-eq-left, min-eq-right, pow-succ'}

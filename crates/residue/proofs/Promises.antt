@@ -1,16 +1,14 @@
 -- The promises of specs/Promises.antt, kept.
-use mathlib.Core.Path.{_≡_, sym, _∙_}
+use mathlib.Core.Path.{_≡_}
 use Prim.Native.Nat.{ℕ, _*_, _/_, _%_, _≤_, _<_}
-use native.Mathlib.Nat.{zero-mod}
 use native.Mathlib.Decide.{decLe}
 use native.Mathlib.Omega.{arith}
-use Rattle.residue.specs.Divides.{Divides}
 use Rattle.residue.specs.Bezout.{cofactors}
 use Rattle.residue.specs.Gcd.{gcd}
 use Rattle.residue.specs.Congruence.{solutionsOf}
 use Rattle.residue.specs.Promises.{GreatestDivisor, ShortChain, NoneByDivisor, NoneExactly, Describes, LeastAndSpacing}
 use Rattle.residue.specs.declared.congruence.Solved.the-variants.{NoSolution}
-use Rattle.residue.proofs.Divides.{divides-of-congruent, congruent-of-divides}
+use Rattle.residue.proofs.Divides.{divides-of-remainder, remainder-of-divides}
 use Rattle.residue.proofs.Gcd.{gcd-divides-left, gcd-divides-right, gcd-greatest}
 use Rattle.residue.proofs.Lame.{lame}
 use Rattle.residue.proofs.Solutions.{solution-divides, solutions-are, solutions-describe, solutions-none}
@@ -21,25 +19,19 @@ greatest-divisor a b = (gcd-divides-left a b, gcd-divides-right a b, gcd-greates
 pub short-chain : ShortChain
 short-chain = lame
 
-remainder-zero : {g b : ℕ} → Divides g b → b % g ≡ 0
-remainder-zero {g} h = congruent-of-divides h .same ∙ zero-mod g
-
-remainder-divides : {g b : ℕ} → b % g ≡ 0 → Divides g b
-remainder-divides {g} h = divides-of-congruent (record { same = h ∙ sym (zero-mod g) })
-
 -- an answer is not both
 not-both : (a b m : ℕ) → 0 < m → b % gcd a m ≡ 0 → solutionsOf a b m ≡ NoSolution → ⊥
 not-both a b m pos h e = let z : _≡_ {A = ℕ} 0 1 = cc (solutions-are a b m pos h) in omega arith
 
 pub none-by-divisor : NoneByDivisor
 none-by-divisor a b m pos = (
-  (λ e h. not-both a b m pos (remainder-zero h) e),
-  (λ h. solutions-none a b m (λ (e : b % gcd a m ≡ 0). h (remainder-divides e))),
+  (λ e h. not-both a b m pos (remainder-of-divides h) e),
+  (λ h. solutions-none a b m (λ (e : b % gcd a m ≡ 0). h (divides-of-remainder e))),
 )
 
 pub none-exactly : NoneExactly
 none-exactly a b m pos = (
-  (λ e u h. not-both a b m pos (remainder-zero (solution-divides a b m u h)) e),
+  (λ e u h. not-both a b m pos (remainder-of-divides (solution-divides a b m u h)) e),
   (λ h. solutions-none a b m (λ (e : b % gcd a m ≡ 0). h _ (solutions-describe a b m pos e .solves))),
 )
 
@@ -52,4 +44,6 @@ least-and-spacing a b m t spacing pos e = go (decLe (b % gcd a m) 0)
         let p : t ≡ cofactors m a m .s * (b / gcd a m) % (m / gcd a m) = cc (solutions-are a b m pos h) in
         let q : spacing ≡ m / gcd a m = cc (solutions-are a b m pos h) in
         rw (p, q) (solutions-describe a b m pos h)
-    go (no n) = let z : _≡_ {A = ℕ} 0 1 = cc (solutions-none a b m (λ (h : b % gcd a m ≡ 0). omega arith)) in absurd (omega arith)
+    go (no n) =
+        let z : _≡_ {A = ℕ} 0 1 = cc (solutions-none a b m (λ (h : b % gcd a m ≡ 0). omega arith)) in
+        absurd (omega arith)

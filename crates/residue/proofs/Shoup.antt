@@ -1,5 +1,5 @@
--- Shoup's product: for a factor a below m and any b up to the base W, the quotient of a·b by m is read off the reciprocal
--- a·W / m, without a division by m. The laws hold for any base; the code's is 2^32.
+-- Shoup's product: for a factor a below m and any b up to the base W, the quotient of a·b by m is read off the
+-- reciprocal a·W / m, without a division by m. The laws hold for any base; the code's is 2^32.
 --   shoup-low, shoup-high   what is left of a·b is not negative, and below 2·m
 --   shoup-quotient          the quotient is the true one or one less
 use Prim.Native.Nat.{ℕ, _+_, _*_, _/_, _≤_, _<_}
@@ -14,7 +14,11 @@ module _ (W a b m : ℕ) (base : 0 < W) (pos : 0 < m) where
   pub shoup-low : shoup W a b m * m ≤ a * b
   shoup-low =
       le-of-mul-le-mul-left {k = W}
-      (omega (arith, mul-le-mul-right m (div-mul-le-self (a * W / m * b) W), mul-le-mul-right b (div-mul-le-self (a * W) m)))
+      (omega (
+        arith,
+        mul-le-mul-right m (div-mul-le-self (a * W / m * b) W),
+        mul-le-mul-right b (div-mul-le-self (a * W) m),
+      ))
       base
 
   pub shoup-high : b ≤ W → a * b < shoup W a b m * m + 2 * m
@@ -30,5 +34,8 @@ module _ (W a b m : ℕ) (base : 0 < W) (pos : 0 < m) where
   pub shoup-quotient : b ≤ W → (shoup W a b m ≤ a * b / m) × (a * b / m ≤ shoup W a b m + 1)
   shoup-quotient small = (
     le-div-iff-mul-le pos .1 shoup-low,
-    omega (arith, div-lt-iff-lt-mul {k = m} {x = a * b} {y = shoup W a b m + 2} pos .1 (omega (arith, shoup-high small))),
+    omega (
+      arith,
+      div-lt-iff-lt-mul {k = m} {x = a * b} {y = shoup W a b m + 2} pos .1 (omega (arith, shoup-high small)),
+    ),
   )

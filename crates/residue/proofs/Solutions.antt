@@ -1,5 +1,5 @@
--- The solutions of one congruence a·t = b mod m, for every m ≥ 1. With g the divisor of a and m, a = g·q, m = g·p and b = g·k,
--- and s the cofactor of a, the solutions are the numbers congruent to s·k mod p.
+-- The solutions of one congruence a·t = b mod m, for every m ≥ 1. With g the divisor of a and m, a = g·q, m = g·p
+-- and b = g·k, and s the cofactor of a, the solutions are the numbers congruent to s·k mod p.
 --   solution-divides          where there is a solution, g divides b
 --   class-of, solution-of     a solution is congruent to s·k mod p, and such a number is a solution
 --   least-is                  the least solution is the remainder of s·k by p
@@ -8,7 +8,7 @@
 use mathlib.Core.Bool.{false}
 use mathlib.Core.Path.{_≡_, sym, _∙_}
 use Prim.Native.Nat.{ℕ, _+_, _*_, _/_, _%_, _<_}
-use native.Mathlib.Nat.{mul-comm, mod-lt, mod-le, div-add-mod, div-add-mod'}
+use native.Mathlib.Nat.{mul-comm, mod-lt, mod-le, div-add-mod, div-add-mod', div-eq-of-eq-mul-right}
 use native.Mathlib.Omega.{arith}
 use borrow.Author.Tests.{eq-eqb, ne-eqb}
 use Rattle.residue.specs.Congruent.{Congruent}
@@ -20,7 +20,7 @@ use Rattle.residue.specs.Congruence.{leastOf, solvesOne, solutionsOf}
 use Rattle.residue.specs.declared.congruence.Solved.the-variants.{NoSolution, Solutions}
 use Rattle.residue.proofs.Bezout.{cofactors-bezout}
 use Rattle.residue.proofs.Congruent.{congruent-of, congruent-of-eq, congruent-refl, congruent-sym, congruent-trans, congruent-mul, congruent-mod, congruent-scale, congruent-unscale, congruent-down}
-use Rattle.residue.proofs.Divides.{factor-positive, factor-div, divides-le, divides-congruent, divides-mul}
+use Rattle.residue.proofs.Divides.{factor-positive, divides-le, divides-congruent, divides-mul}
 use Rattle.residue.proofs.First.{first-is}
 use Rattle.residue.proofs.Gcd.{gcd-divides-left, gcd-divides-right}
 
@@ -30,8 +30,8 @@ solution-divides a b m u h =
     (divides-mul u (gcd-divides-left a m))
 
 -- a pair of a and m with the cofactors of their quotients
-module _ (a b m g q p s t k : ℕ) (pos : 0 < m) (left : a ≡ g * q) (right : m ≡ g * p) (one : Congruent m (s * q + t * p) 1)
-    (divided : b ≡ g * k) where
+module _ (a b m g q p s t k : ℕ) (pos : 0 < m) (left : a ≡ g * q) (right : m ≡ g * p)
+    (one : Congruent m (s * q + t * p) 1) (divided : b ≡ g * k) where
   divisor-positive : 0 < g
   divisor-positive = factor-positive m g p right pos
 
@@ -71,7 +71,11 @@ module _ (a b m g q p s t k : ℕ) (pos : 0 < m) (left : a ≡ g * q) (right : m
 
   least-below : s * k % p < m
   least-below =
-      omega (arith, mod-lt (s * k) spacing-positive, divides-le {d = p} pos (record { quotient = g; eq = right ∙ mul-comm g p }))
+      omega (
+        arith,
+        mod-lt (s * k) spacing-positive,
+        divides-le {d = p} pos (record { quotient = g; eq = right ∙ mul-comm g p }),
+      )
 
   pub least-is : leastOf a b m ≡ s * k % p
   unfolding leastOf
@@ -97,7 +101,7 @@ module _ (a b m : ℕ) (pos : 0 < m) (divided : b % gcd a m ≡ 0) where
   spacing : m / gcd a m ≡ cofactors-bezout m a m pos .p
   spacing =
       let z = cofactors-bezout m a m pos in
-      factor-div (gcd a m) (z .p) (factor-positive m (gcd a m) (z .p) (z .right) pos) (z .right)
+      div-eq-of-eq-mul-right (factor-positive m (gcd a m) (z .p) (z .right) pos) (z .right)
 
   quotient-of : b ≡ gcd a m * (b / gcd a m)
   quotient-of = omega (arith, div-add-mod b (gcd a m))
@@ -109,16 +113,16 @@ module _ (a b m : ℕ) (pos : 0 < m) (divided : b % gcd a m ≡ 0) where
       rw (
         eq-eqb (b % gcd a m) 0 divided,
         spacing,
-        least-is a b m (gcd a m) (z .q) (z .p) (cofactors m a m .s) (cofactors m a m .t) (b / gcd a m) pos (z .left) (z .right)
-            (z .one) quotient-of,
+        least-is a b m (gcd a m) (z .q) (z .p) (cofactors m a m .s) (cofactors m a m .t) (b / gcd a m) pos
+            (z .left) (z .right) (z .one) quotient-of,
       )
 
   pub solutions-describe : Describes a b m (cofactors m a m .s * (b / gcd a m) % (m / gcd a m)) (m / gcd a m)
   solutions-describe =
       let z = cofactors-bezout m a m pos in
       rw spacing
-      (describes a b m (gcd a m) (z .q) (z .p) (cofactors m a m .s) (cofactors m a m .t) (b / gcd a m) pos (z .left) (z .right)
-      (z .one) quotient-of)
+      (describes a b m (gcd a m) (z .q) (z .p) (cofactors m a m .s) (cofactors m a m .t) (b / gcd a m) pos
+      (z .left) (z .right) (z .one) quotient-of)
 
 pub solutions-none : (a b m : ℕ) → (b % gcd a m ≡ 0 → ⊥) → solutionsOf a b m ≡ NoSolution
 unfolding solutionsOf

@@ -1,5 +1,5 @@
--- The number of decimal digits, for Lamé's bound: "0 counts as no digits". The counter of `digitsWithin` only shows that
--- the recursion ends: the two laws say all of `digits`, and no counter stands in them.
+-- The number of decimal digits, for Lamé's bound: "0 counts as no digits". The counter of `digitsWithin` only shows
+-- that the recursion ends: the two laws say all of `digits`, and no counter stands in them.
 use mathlib.Core.Path.{_≡_, refl, ap}
 use Prim.Native.Nat.{ℕ, zero, suc, _+_, _/_, _≤_, _<_}
 use native.Mathlib.Nat.{le-refl}

@@ -1,5 +1,5 @@
--- Read in this order: Congruent, Divides, Negative, Euclid, Gcd, Digits, Chain, Bezout, Cofactors, Questions, Congruence,
--- Promises.
+-- Read in this order: Congruent, Divides, Negative, Euclid, Gcd, Digits, Chain, Bezout,
+-- Cofactors, Questions, Congruence, Promises.
 pub mod Congruent
 pub mod Divides
 pub mod Negative

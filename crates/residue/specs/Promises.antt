@@ -1,5 +1,5 @@
--- What this crate promises of its definitions, beside the contracts: Euclid's chain gives the textbook's divisor, and the
--- answer to one congruence describes its solutions, for every m ≥ 1. Kept in proofs/Promises.antt.
+-- What this crate promises of its definitions, beside the contracts: Euclid's chain gives the textbook's divisor, and
+-- the answer to one congruence describes its solutions, for every m ≥ 1. Kept in proofs/Promises.antt.
 use mathlib.Core.Logic.{_↔_}
 use mathlib.Core.Path.{_≡_}
 use Prim.Native.Nat.{ℕ, _+_, _*_, min, _≤_, _<_}

@@ -1,5 +1,5 @@
--- Laws that the proofs of this crate's functions cite. The first three serve both routines, then come those of the answer,
--- and from Checks on those of the marking.
+-- Laws that the proofs of this crate's functions cite. The first three serve both routines, then come those of the
+-- answer, and from Checks on those of the marking.
 pub mod Rows
 pub mod Lines
 pub mod Chunks

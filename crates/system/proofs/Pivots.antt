@@ -1,5 +1,5 @@
--- The pivots of two bases compared, from the last place to the first: `goal` is the outcome for all places, and j of them
--- are left.
+-- The pivots of two bases compared, from the last place to the first: `goal` is the
+-- outcome for all places, and j of them are left.
 --   agree-start                        all places are left
 --   agree-stop, agree-on, agree-none   the last of them fails, it passes, there is none
 use mathlib.Core.Path.{_≡_, refl, sym, ap, ap₂, _∙_}
@@ -28,8 +28,8 @@ module _ (m n : ℕ) (B C : List (List ℕ)) where
   agree-none j goal h g = sym (g ∙ ap (agreeFor m n B C) h)
 
   -- the code's pivots at the last place, and its outcome there
-  module _ (j : ℕ) (goal result : Bool) (c b : ℕ) (h : 0 < j) (g : goal ≡ agreeFor m n B C j) (e : result ≡ eqb (c * b) m)
-      (of-steps : c ≡ pivot (j - 1) C) (of-equations : b ≡ pivot (n - 1 - (j - 1)) B) where
+  module _ (j : ℕ) (goal result : Bool) (c b : ℕ) (h : 0 < j) (g : goal ≡ agreeFor m n B C j)
+      (e : result ≡ eqb (c * b) m) (of-steps : c ≡ pivot (j - 1) C) (of-equations : b ≡ pivot (n - 1 - (j - 1)) B) where
     test : (t : Bool) → result ≡ t → goal ≡ t && agreeFor m n B C (j - 1)
     test t f =
         g ∙ agree-suc j h

@@ -52,7 +52,10 @@ module _ (m n : ℕ) (es : List Equation) (pos : 0 < m) (shaped : Shaped n es) w
   solved : (c : List ℕ) → startOf m n es ≡ some c
       → Answers m n es (suc (length (stepsOf m n es))) (c ++ flatten (stepsOf m n es))
   solved c h = record {
-    none = ((λ p. absurd (omega arith)), (λ no. absurd (no c (start-solves m n es c h .0) (start-solves m n es c h .1))));
+    none = (
+      (λ p. absurd (omega arith)),
+      (λ no. absurd (no c (start-solves m n es c h .0) (start-solves m n es c h .1))),
+    );
     multipliers = λ p. absurd (omega arith);
     complete = λ _ v vector. rw (start-is, steps-are) (complete m n es c pos h v vector);
     unique = λ _. rw (start-is, steps-are) (unique m n es c pos h);

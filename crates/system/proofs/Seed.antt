@@ -3,7 +3,7 @@
 --   seed-behind, seed-below   what stands from column i on
 --   kept-front                rows in front of others
 --   seed-vector               the vector that is written
-use mathlib.Core.Path.{_≡_, refl, ap, ap₂, _∙_}
+use mathlib.Core.Path.{_≡_, ap, ap₂, _∙_}
 use mathlib.Core.List.{List, [], _∷_, _++_}
 use Prim.Native.Nat.{ℕ, zero, suc, pred, _+_, _-_, _<_, _≤_}
 use native.Mathlib.Numerals.{add-one}
@@ -11,9 +11,10 @@ use native.Mathlib.Omega.{arith}
 use lib.ListN.{length, take, drop, set, replicate, length-set}
 use lib.Seq.{length-take-le, take-at}
 use Rattle.equations.specs.Vectors.{Below}
+use Rattle.equations.proofs.Vectors.{below-zeros}
 use Rattle.elimination.specs.Substitution.{extend}
 use Rattle.elimination.specs.Tableau.{turned}
-use Rattle.elimination.proofs.Residues.{below-zeros}
+use Rattle.elimination.proofs.Leading.{take-zeros}
 use Rattle.tableau.specs.Packed.{rows, Kept}
 use Rattle.system.specs.Reading.{readVector}
 use Rattle.system.proofs.Rows.{extend-rows}
@@ -26,11 +27,6 @@ length-seed i e = length-set (replicate 17 0) i e
 
 pub seed-front : (w i e : ℕ) → w ≤ 17 → length (take w (seed i e)) ≡ w
 seed-front w i e h = length-take-le w (seed i e) (omega (arith, length-seed i e))
-
-take-zeros : (k w : ℕ) → k ≤ w → take k (replicate {A = ℕ} w 0) ≡ replicate k 0
-take-zeros zero w h = refl
-take-zeros (suc k) zero h = absurd (omega arith)
-take-zeros (suc k) (suc w) h = ap {B = List ℕ} (λ z. 0 ∷ z) (take-zeros k w (omega arith))
 
 behind : (w i k n e : ℕ) → n ≡ i + k → n < w → drop i (take (suc n) (set (replicate w 0) i e)) ≡ e ∷ replicate k 0
 behind zero i k n e h g = absurd (omega arith)

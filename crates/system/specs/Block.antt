@@ -12,7 +12,8 @@ abbrev pub blockWith : Option (List ℕ) → List (List ℕ) → List ℕ → Li
 blockWith none steps ks = 0 ∷ ks
 blockWith (some start) steps ks = suc (length steps) ∷ (start ++ flatten steps)
 
--- "Answer block: the same form" as a claim, "a head, then head number times n entries .. a starting vector with its steps";
--- "the steps follow the starting vector in the same buffer. Without solution: head 0, then one multiplier per equation."
+-- "Answer block: the same form" as a claim, "a head, then head number times n entries .. a starting
+-- vector with its steps"; "the steps follow the starting vector in the same buffer. Without solution:
+-- head 0, then one multiplier per equation."
 unfoldable pub blockOf : ℕ → ℕ → List Equation → List ℕ
 blockOf m n es = blockWith (startOf m n es) (stepsOf m n es) (multipliersOf m n es)

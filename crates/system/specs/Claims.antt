@@ -16,13 +16,14 @@ vectorsWithin (suc c) n s = take n s ∷ vectorsWithin c n (drop n s)
 unfoldable pub vectorsOf : ℕ → List ℕ → List (List ℕ)
 vectorsOf n s = vectorsWithin (length s / n) n s
 
--- "a head, then head number times n entries; 0 claims no solution and describes no vector, 1..17 is a starting vector with
--- its steps"
+-- "a head, then head number times n entries; 0 claims no solution and describes no vector,
+-- 1..17 is a starting vector with its steps"
 unfoldable pub claimOf : ℕ → List ℕ → Claim
 claimOf n [] = noSolution
 claimOf n (x ∷ s) = from (take n (x ∷ s)) (vectorsOf n (drop n (x ∷ s)))
 
--- "It is well-formed if its shape is right and its entries are below m." How many vectors there are, does not matter here.
+-- "It is well-formed if its shape is right and its entries are below m." How many
+-- vectors there are, does not matter here.
 pub record Claimed (m n : ℕ) (claim : List ℕ) : Type 0 where
   pub whole : length claim % n ≡ 0
   pub residues : Below m claim

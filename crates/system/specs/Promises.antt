@@ -25,13 +25,13 @@ shownStart n numbers = take n numbers
 abbrev pub shownSteps : ℕ → ℕ → List ℕ → List (List ℕ)
 shownSteps n head numbers = vectorsWithin (head - 1) n (drop n numbers)
 
--- A head with the numbers behind it is an answer to es. `Within` and `Written` ask for one coefficient for each step that is
--- shown, within the step's range 0..m/d-1.
+-- A head with the numbers behind it is an answer to es. `Within` and `Written` ask for one coefficient for each step
+-- that is shown, within the step's range 0..m/d-1.
 pub record Answers (m n : ℕ) (es : List Equation) (head : ℕ) (numbers : List ℕ) : Type 0 where
   -- 'says "no solution" exactly when no vector of residues solves all those equations'
   pub none : (head ≡ 0) ↔ ((v : List ℕ) → Vector m n v → T (solves m es v) → ⊥)
-  -- "In that case it shows multipliers, one for each equation, under which they add up mod m to 0 = a number that is not
-  -- 0."
+  -- "In that case it shows multipliers, one for each equation, under which they add
+  -- up mod m to 0 = a number that is not 0."
   pub multipliers : head ≡ 0 → T (refutes m n es numbers)
   -- "a vector solves them all if and only if it is the starting vector plus a combination of the steps"
   pub complete : 0 < head → (v : List ℕ) → Vector m n v

@@ -1,5 +1,5 @@
--- What is read off a basis B of equations in n unknowns mod m. The unknowns stand in reverse order in it, so that column i
--- belongs to the place n - 1 - i. Definitions only.
+-- What is read off a basis B of equations in n unknowns mod m. The unknowns stand in reverse order in it, so that
+-- column i belongs to the place n - 1 - i. Definitions only.
 use mathlib.Core.Path.{_≡_}
 use mathlib.Core.List.{List, [], _∷_, flatten}
 use mathlib.Core.Option.{Option, none, some}

@@ -13,9 +13,9 @@ use Rattle.equations.specs.Equation.{Equation}
 use Rattle.equations.specs.Vectors.{Below}
 use Rattle.elimination.specs.Basis.{insert, inserts, empty, basis}
 use Rattle.elimination.specs.Tableau.{unit, line, lines, tableau}
-use Rattle.elimination.proofs.Residues.{below-zeros}
 use Rattle.tableau.specs.Packed.{rows, triangle, Kept}
 use Rattle.equations.specs.Lines.{equationAt, equationsOf}
+use Rattle.equations.proofs.Vectors.{below-zeros}
 use Rattle.tableau.proofs.Lines.{below-lent, equation-front, equations-none, equations-more}
 
 pub kept-empty : (m k w : ℕ) → 0 < m → Kept m (empty m k w)

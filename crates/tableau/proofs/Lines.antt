@@ -17,9 +17,9 @@ use Rattle.residue.specs.Negative.{negative}
 use Rattle.equations.specs.Equation.{Equation}
 use Rattle.equations.specs.Vectors.{Below}
 use Rattle.elimination.specs.Tableau.{line, unit, turned}
-use Rattle.elimination.proofs.Residues.{below-zeros}
 use Rattle.elimination.proofs.Turned.{below-turned}
 use Rattle.equations.specs.Lines.{equationAt, equationsWithin, equationsOf}
+use Rattle.equations.proofs.Vectors.{below-zeros}
 use Rattle.tableau.proofs.Combined.{below-drop}
 
 pub below-take : (m i : ℕ) (v : List ℕ) → Below m v → Below m (take i v)

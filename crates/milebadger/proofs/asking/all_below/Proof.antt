@@ -8,7 +8,7 @@ use denote.Ref.{now}
 use lib.ListN.{length, drop}
 use lib.Seq.{drop-length}
 use Rattle.equations.specs.Multipliers.{allBelow}
-use Rattle.milebadger.proofs.Questions.{first-below, first-above}
+use Rattle.equations.proofs.Vectors.{all-below-on, all-below-stop}
 use Rattle.milebadger.proofs.asking.all_below.Statement.{statement}
 use Rattle.milebadger.proofs.asking.all_below.Tie as tie
 
@@ -31,7 +31,7 @@ returns : tie.Need-returns Inv-loop μ-loop
 returns c =
     let at-start = c .before .before .before .before .args in
     let l = c .before .before .before .loop in
-    sym (l .inv .1 ∙ first-above (at-start .m) (now (at-start .numbers)) (l .i) (omega arith) (omega arith))
+    sym (l .inv .1 ∙ all-below-stop (at-start .m) (now (at-start .numbers)) (l .i) (omega arith) (omega arith))
 
 add-i : tie.Need-add-i Inv-loop μ-loop
 add-i c = search needs
@@ -44,7 +44,7 @@ loop-again c =
     let at-start = c .before .before .before .before .args in
     let l = c .before .before .before .loop in (
       search needs,
-      l .inv .1 ∙ first-below (at-start .m) (now (at-start .numbers)) (l .i) (omega arith) (omega arith),
+      l .inv .1 ∙ all-below-on (at-start .m) (now (at-start .numbers)) (l .i) (omega arith) (omega arith),
     )
 
 returns-2 : tie.Need-returns-2 Inv-loop μ-loop

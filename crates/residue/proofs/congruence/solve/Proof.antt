@@ -1,33 +1,30 @@
 -- `solve` meets its contract: `refusal` asks the questions, and where none turns the congruence away, m is at least 2.
-use mathlib.Core.Bool.{Bool, true, false, cond}
-use mathlib.Core.Path.{_≡_, refl, sym, ap, _∙_}
+use mathlib.Core.Path.{_≡_, sym, _∙_}
 use Prim.Native.Nat.{ℕ, _≤_}
 use native.Mathlib.Omega.{arith}
-use borrow.Author.Tests.{leb-true, ne-eqb}
-use lib.Dec.{leb}
+use lib.Dec.{leb, leb→le}
+use mir.Facts.{and-yes}
+use borrow.Author.Tests.{eq-eqb, ne-eqb}
 use borrow.Author.Needs.{needs}
-use Rattle.residue.specs.Congruence.{solutionsOf, unlessRefused, congruenceOf}
-use Rattle.residue.specs.Questions.{firstNo, congruenceQuestions}
+use Rattle.residue.specs.Congruence.{solutionsOf, congruenceOf}
+use Rattle.residue.specs.Questions.{firstNo, congruenceQuestions, largestModulus}
 use Rattle.residue.specs.declared.congruence.Solved.the-variants.{Refused}
+use Rattle.residue.proofs.Questions.{all-yes}
 use Rattle.residue.proofs.congruence.solve.Statement.{statement}
 use Rattle.residue.proofs.congruence.solve.Tie as tie
 
 modulus-allowed : (a b m : ℕ) → firstNo (congruenceQuestions a b m) ≡ 0 → 2 ≤ m
-modulus-allowed a b m h = go (leb 2 m) refl
-  where
-    go : (test : Bool) → leb 2 m ≡ test → 2 ≤ m
-    go true e = leb-true 2 m e
-    go false e = let two : _≡_ {A = ℕ} 2 0 = rw e at h in absurd (omega arith)
+modulus-allowed a b m h =
+    leb→le 2 m (and-yes (leb 2 m) (leb m largestModulus) (all-yes (congruenceQuestions a b m) tt h .0) .0)
 
 module _ (a b m number : ℕ) (is : number ≡ firstNo (congruenceQuestions a b m)) where
   refused : (number ≡ 0 → ⊥) → Refused number ≡ congruenceOf a b m
   unfolding congruenceOf
-  refused h = ap (λ (test : Bool). cond test (solutionsOf a b m) (Refused number)) (sym (ne-eqb number 0 h))
-      ∙ ap (λ (n : ℕ). unlessRefused n (solutionsOf a b m)) is
+  refused h = rw (← is, ne-eqb number 0 h)
 
   accepted : number ≡ 0 → solutionsOf a b m ≡ congruenceOf a b m
   unfolding congruenceOf
-  accepted h = ap (λ (n : ℕ). unlessRefused n (solutionsOf a b m)) (sym h ∙ is)
+  accepted h = rw (← is, eq-eqb number 0 h)
 
 refusal-requires : tie.Need-refusal-requires
 refusal-requires c κs = search needs

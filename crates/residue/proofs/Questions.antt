@@ -1,0 +1,28 @@
+-- Questions that turn nothing away: where none gives its number, each has the answer yes.
+--   numbered          no question has the number 0, which stands for none; a test, so that a list shows it by computing
+--   AllYes, all-yes   each question has the answer yes; so it is where none turns a call away
+use mathlib.Core.Path.{_≡_}
+use mathlib.Core.Bool.{Bool, true, false, cond, _&&_}
+use mathlib.Core.List.{List, [], _∷_}
+use native.Mathlib.Omega.{arith}
+use lib.Dec.{T, ltb, ltb→lt}
+use mir.Facts.{and-yes}
+use Rattle.residue.specs.Questions.{Question, firstNo}
+
+abbrev pub numbered : List Question → Bool
+numbered [] = true
+numbered (q ∷ qs) = ltb 0 (q .number) && numbered qs
+
+abbrev pub AllYes : List Question → Type 0
+AllYes [] = Unit {0}
+AllYes (q ∷ qs) = T (q .yes) × AllYes qs
+
+pub all-yes : (qs : List Question) → T (numbered qs) → firstNo qs ≡ 0 → AllYes qs
+all-yes [] numbers none = tt
+all-yes (q ∷ qs) numbers none =
+    let n = and-yes (ltb 0 (q .number)) (numbered qs) numbers in go (q .yes) (n .0) none (all-yes qs (n .1))
+  where
+    go : (test : Bool) → T (ltb 0 (q .number)) → cond test (firstNo qs) (q .number) ≡ 0 → (firstNo qs ≡ 0 → AllYes qs)
+        → T test × AllYes qs
+    go true n h rest = (tt, rest h)
+    go false n h rest = absurd (omega (arith, ltb→lt 0 (q .number) n))
