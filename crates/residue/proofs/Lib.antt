@@ -1,7 +1,7 @@
 -- Laws about the definitions in specs/, for every crate above.
 -- The kit over any modulus: Congruent, Divides, Negative. Euclid's chain: Induction, Bezout, Columns, Gcd, Lame.
--- A product without a division: Shoup. Every call's questions: Questions. One congruence: First, Solutions.
--- What specs/Promises.antt promises: Promises.
+-- A product without a division, and a remainder without a test: Shoup, Masked. Every call's questions: Questions.
+-- One congruence: First, Solutions. What specs/Promises.antt promises: Promises.
 pub mod Congruent
 pub mod Divides
 pub mod Negative
@@ -11,6 +11,7 @@ pub mod Columns
 pub mod Gcd
 pub mod Lame
 pub mod Shoup
+pub mod Masked
 pub mod Questions
 pub mod First
 pub mod Solutions

@@ -3,6 +3,8 @@
 ghost use mathlib.Core.Path.{_≡_};
 ghost use Prim.Native.Nat.{_+_, _*_, _/_, _%_, _≤_, _<_};
 ghost use Rattle.residue.specs.Negative.{negative};
+use std::num::wrapping_add_u32;
+use std::num::wrapping_sub_u64;
 
 // Both numbers are residues, so that no division is made.
 pub fn add(a: u32, b: u32, m: u32) -> u32
@@ -88,14 +90,14 @@ pub fn reduce(x: u64, m: u32) -> u32
     (x % wide(m)) as u32
 }
 
+// No test, which the processor could not foresee: the high word of x - m is all ones where x is below m, and 0 elsewhere, so
+// that it masks the m to be added back.
 fn reduce_once(x: u64, m: u32) -> u32
     requires { ⌜ x < 2 * m ⌝ }
     ensures { λ r. ⌜ (r ≡ x % m) × (r < m) ⌝ }
 {
-    let modulus = wide(m);
-    if x < modulus {
-        x as u32
-    } else {
-        (x - modulus) as u32
-    }
+    let difference = wrapping_sub_u64(x, wide(m));
+    let low = (difference % 4294967296) as u32;
+    let high = (difference / 4294967296) as u32;
+    wrapping_add_u32(low, m & high)
 }

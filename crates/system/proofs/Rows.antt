@@ -6,16 +6,19 @@
 --   pivot-kept        which is not 0
 --   carried-rows      the last row but for its pivot stands at the end of the list
 --   extend-rows       back substitution of j columns looks at the first j rows only
+--   extend-zeros      and zeros at the end of the entries behind them may be left out
 use mathlib.Core.Path.{_≡_, refl, sym, ap, _∙_}
-use mathlib.Core.List.{List, [], _∷_}
+use mathlib.Core.List.{List, [], _∷_, _++_}
 use Prim.Native.Nat.{ℕ, zero, suc, pred, _+_, _-_, _*_, _/_, _<_, _≤_}
 use native.Mathlib.Nat.{div-eq-of-eq-mul-right}
 use native.Mathlib.Numerals.{add-one}
 use native.Mathlib.Omega.{arith}
-use lib.ListN.{length, take, drop, getD, length-drop}
+use lib.ListN.{length, take, drop, getD, replicate, length-drop}
 use lib.Seq.{getD-drop, drop-drop, take-all}
+use Rattle.equations.specs.Equation.{dot}
+use Rattle.equations.proofs.Dot.{dot-comm, dot-zeros}
 use Rattle.elimination.specs.Basis.{pivot}
-use Rattle.elimination.specs.Substitution.{extend, fit}
+use Rattle.elimination.specs.Substitution.{extend, fit, place}
 use Rattle.tableau.specs.Packed.{rows, triangle, Kept}
 
 triangle-twice : (i l : ℕ) → i ≤ l → 2 * triangle i l + i * i ≡ i * (2 * l + 1)
@@ -57,6 +60,23 @@ extend-rows m zero w l s T h = refl
 extend-rows m (suc j) zero l s T h = absurd (omega arith)
 extend-rows m (suc j) (suc w) l s T h =
     ap (λ (Y : List ℕ). fit m (take l s) Y ∷ Y) (extend-rows m j w (pred l) (drop l s) T (omega arith))
+
+dot-behind : (r Y : List ℕ) (z : ℕ) → dot r (Y ++ replicate z 0) ≡ dot r Y
+dot-behind [] Y z = refl
+dot-behind (a ∷ r) [] z = dot-comm (a ∷ r) (replicate z 0) ∙ dot-zeros z (a ∷ r)
+dot-behind (a ∷ r) (y ∷ Y) z = ap (λ (s : ℕ). a * y + s) (dot-behind r Y z)
+
+fit-behind : (m z : ℕ) (r Y : List ℕ) → fit m r (Y ++ replicate z 0) ≡ fit m r Y
+fit-behind m z [] Y = refl
+fit-behind m z (d ∷ r) Y = ap (place m d) (dot-behind r Y z)
+
+pub extend-zeros : (m j z : ℕ) (B : List (List ℕ)) (T : List ℕ)
+    → extend m j B (T ++ replicate z 0) ≡ extend m j B T ++ replicate z 0
+extend-zeros m zero z B T = refl
+extend-zeros m (suc j) z [] T = refl
+extend-zeros m (suc j) z (r ∷ B) T =
+    ap (λ (Y : List ℕ). fit m r Y ∷ Y) (extend-zeros m j z B T)
+    ∙ ap {B = List ℕ} (λ x. x ∷ (extend m j B T ++ replicate z 0)) (fit-behind m z r (extend m j B T))
 
 pub pivot-kept : (m w i l : ℕ) (s : List ℕ) → i < w → w ≤ l → length s ≡ triangle w l → Kept m (rows w l s)
     → 0 < pivot i (rows w l s)

@@ -27,15 +27,16 @@ pub(crate) fn pivot_at(basis: &[u32], i: usize, l: usize) -> u32
     basis[at]
 }
 
-// The vector with e in column i and zeros behind it; the columns in front by back substitution.
+// The vector with e in column i and zeros behind it; the columns in front by back substitution, which leaves the zeros out.
 fn vector_into(basis: &[u32], out: &mut [u32], m: u32, n: usize, i: usize, e: u32)
     requires { ⌜ Readable m n (now basis) × (length (now out) ≡ n) × (i ≤ n) × (e < m) ⌝ }
     ensures { λ _. ⌜ now (out .exit) ≡ readVector m n (rowsIn n (now (basis .entry))) i e ⌝ }
 {
     let mut x = [0u32; 17];
     x[i] = e;
+    let used = i + 1;
+    extend(basis, &mut x[..used], m, i, n - i);
     let w = n + 1;
-    extend(basis, &mut x[..w], m, i, 0);
     turn(&x[..w], out);
 }
 

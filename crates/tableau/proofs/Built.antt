@@ -7,7 +7,7 @@ use Prim.Native.Nat.{ℕ, zero, suc, _+_, _≤_, _<_}
 use native.Mathlib.Numerals.{add-one}
 use native.Mathlib.Nat.{le-refl}
 use native.Mathlib.Omega.{arith}
-use lib.ListN.{length, take, drop}
+use lib.ListN.{length, take, drop, replicate, length-replicate}
 use Rattle.slices.proofs.Parts.{lent, lent-is, lent-length}
 use Rattle.equations.specs.Equation.{Equation}
 use Rattle.equations.specs.Vectors.{Below}
@@ -20,7 +20,15 @@ use Rattle.tableau.proofs.Lines.{below-lent, equation-front, equations-
 
 pub kept-empty : (m k w : ℕ) → 0 < m → Kept m (empty m k w)
 kept-empty m k zero h = tt
-kept-empty m k (suc w) h = ((h, le-refl m, below-zeros m (w + k) h), kept-empty m k w h)
+kept-empty m k (suc w) h = (
+  (
+    h,
+    le-refl m,
+    below-zeros m (w + k) h,
+    λ e. ap (λ (l : ℕ). replicate l 0) (sym (length-replicate (w + k) 0)),
+  ),
+  kept-empty m k w h,
+)
 
 -- `all` holds all the equations, `rest` those that are left, the first of them with the number i
 pub record Built (m n k : ℕ) (all b rest : List ℕ) (i : ℕ) : Type 0 where

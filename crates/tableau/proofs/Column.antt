@@ -1,15 +1,16 @@
--- One column of the insertion, in the three ways that the code goes. Where parts of the row R and the line W are lent, they are
+-- One column of the insertion, in the four ways that the code goes. Where parts of the row R and the line W are lent, they are
 -- written as the code lends them: without their first entries.
 --   row-head                          the row's first entry is a pivot
 --   column-zero                       the line's entry is 0
 --   column-divided                    the pivot divides it
 --   column-reduced                    neither; with `reduction`, its numbers, and `divisor-positive`
+--   column-first                      the row holds nothing yet
 use mathlib.Core.Path.{_≡_, refl, sym, ap, ap₂, _∙_, subst, subst₂}
 use mathlib.Core.List.{List, [], _∷_}
 use Prim.Native.Nat.{ℕ, zero, suc, _+_, _*_, _/_, _%_, _≤_, _<_}
 use native.Mathlib.Nat.{suc-inj, mod-eq-of-lt}
 use native.Mathlib.Omega.{arith}
-use lib.ListN.{length, getD, set}
+use lib.ListN.{length, getD, set, replicate}
 use borrow.Author.Tests.{eq-eqb, ne-eqb}
 use Rattle.residue.specs.Gcd.{gcd}
 use Rattle.residue.specs.Bezout.{cofactors}
@@ -17,7 +18,7 @@ use Rattle.residue.specs.Negative.{negative}
 use Rattle.residue.specs.Cofactors.{bezoutOf}
 use Rattle.residue.specs.declared.extended.Bezout.{Bezout}
 use Rattle.residue.proofs.Divides.{divides-le}
-use Rattle.residue.proofs.Gcd.{gcd-positive, gcd-divides-left}
+use Rattle.residue.proofs.Gcd.{gcd-positive, gcd-divides-right}
 use Rattle.equations.specs.Vectors.{combine, Below}
 use Rattle.equations.proofs.Vectors.{below-combine}
 use Rattle.elimination.specs.Step.{stepOf}
@@ -103,7 +104,12 @@ column-reduced m g s t p n (d ∷ R) (suc v ∷ W) r l h e k b q z (eg, es, et, 
     (sym (put-back-is 1 (suc v ∷ W) l)) (record {
       same = λ B. reduced-insert m d v R W B z
           ∙ ap₂ {C = List (List ℕ)} (λ u w. u ∷ insert m B w) (sym row) (sym line);
-      kept = (positive, small, subst (Below m) (sym f) (below-combine m s t R W (omega (arith, k .0, k .1))));
+      kept = (
+        positive,
+        omega (arith, small),
+        subst (Below m) (sym f) (below-combine m s t R W (omega (arith, k .0, k .1))),
+        λ full. absurd (omega (arith, small)),
+      );
       below = (b .0, subst (Below m) (sym y) (below-combine m p n R W (omega (arith, k .0, k .1))));
     })
   where
@@ -124,5 +130,43 @@ column-reduced m g s t p n (d ∷ R) (suc v ∷ W) r l h e k b q z (eg, es, et, 
     positive : 0 < g
     positive = subst (λ (u : ℕ). 0 < u) (sym eg) (gcd-positive d (suc v) (omega arith))
 
-    small : g ≤ m
-    small = omega (arith, eg, divides-le (k .0) (gcd-divides-left d (suc v)))
+    small : g < m
+    small = omega (arith, eg, b .0, divides-le (omega arith) (gcd-divides-right d (suc v)))
+
+-- a row of zeros in a combination is the line with the factor t alone
+zeros-combine : (m s t : ℕ) (r w : List ℕ) → length r ≡ length w → r ≡ replicate (length r) 0
+    → combine m s t r w ≡ combine m 0 t w w
+zeros-combine m s t r w h z = ap (λ (x : List ℕ). combine m s t x w) (z ∙ ap (λ (l : ℕ). replicate l 0) h) ∙ go w
+  where
+    go : (w : List ℕ) → combine m s t (replicate (length w) 0) w ≡ combine m 0 t w w
+    go [] = refl
+    go (y ∷ w) =
+        let e : s * 0 + t * y ≡ 0 * y + t * y = omega arith in
+        ap₂ {C = List ℕ} (λ x u. x ∷ u) (ap (λ (x : ℕ). x % m) e) (go w)
+
+-- the parts that are lent of a row with the pivot m and of the line
+blank-combine : (m s t : ℕ) (R W : List ℕ) → 0 < length R → length R ≡ length W → RowKept m R → getD R 0 0 ≡ m
+    → combine m 0 t (lent 1 W) (lent 1 W) ≡ combine m s t (lent 1 R) (lent 1 W)
+blank-combine m s t [] W h g k e = absurd (omega arith)
+blank-combine m s t (d ∷ R) [] h g k e = absurd (omega arith)
+blank-combine m s t (d ∷ R) (v ∷ W) h g k e =
+    ap (λ (w : List ℕ). combine m 0 t w w) (lent-is 1 (v ∷ W))
+    ∙ sym (zeros-combine m s t R W (suc-inj g) (k .3 e))
+    ∙ sym (ap₂ (combine m s t) (lent-is 1 (d ∷ R)) (lent-is 1 (v ∷ W)))
+
+no-multiple : (m d v : ℕ) → d ≡ m → 0 < v → v < m → v % d ≡ 0 → ⊥
+no-multiple m d v e pos small z = omega (arith, mod-eq-of-lt small, ap (λ (x : ℕ). v % x) e, z)
+
+pub column-first : (m : ℕ) (c : Bezout) (n : ℕ) (R W r l : List ℕ) → 0 < length R → length R ≡ length W → RowKept m R
+    → Below m W → getD R 0 0 ≡ m → 0 < getD W 0 0 → getD W 0 0 < m → c ≡ bezoutOf m m (getD W 0 0)
+    → n ≡ negative m (m / c .divisor) % m
+    → r ≡ combine m 0 (c .t) (lent 1 W) (lent 1 W)
+    → l ≡ combine m 0 n (lent 1 W) (lent 1 W)
+    → Inserted m R W (set (putBack 1 R r) 0 (c .divisor)) (putBack 1 W l)
+column-first m c n R W r l h e k b full pos small is minus i j =
+    let d = getD R 0 0 in let v = getD W 0 0 in
+    column-reduced m (c .divisor) (c .s) (c .t) (v / c .divisor) n R W r l h e k b pos (no-multiple m d v full pos small)
+    (reduction m d v c n (is ∙ ap (λ (x : ℕ). bezoutOf m x v) (sym full))
+    (minus ∙ ap (λ (x : ℕ). negative m (x / c .divisor) % m) (sym full)))
+    (i ∙ blank-combine m (c .s) (c .t) R W h e k full)
+    (j ∙ blank-combine m (v / c .divisor) n R W h e k full)

@@ -1,15 +1,29 @@
 // A line put into a basis, column by column.
 ghost use mathlib.Core.Path.{_≡_};
 ghost use Prim.Native.Nat.{_<_, _≤_};
-ghost use lib.ListN.{length};
+ghost use lib.ListN.{length, getD};
 ghost use Rattle.equations.specs.Vectors.{Below};
 ghost use Rattle.elimination.specs.Basis.{insert};
 ghost use Rattle.tableau.specs.Packed.{rows, triangle, Kept, RowKept};
 ghost use Rattle.tableau.specs.Column.{Inserted};
 use crate::line::combine_both;
+use crate::line::multiples;
 use crate::line::reduce;
 use residue::extended::cofactors;
 use residue::modular::negate;
+
+// One column whose row holds nothing yet. Behind its pivot m there are zeros only, so that the line alone is multiplied.
+fn insert_first(row: &mut [u32], line: &mut [u32], m: u32)
+    requires { ⌜ (0 < length (now row)) × (length (now row) ≡ length (now line)) × RowKept m (now row) × Below m (now line) ⌝ }
+    requires { ⌜ (getD (now row) 0 0 ≡ m) × (0 < getD (now line) 0 0) ⌝ }
+    ensures { λ _. ⌜ Inserted m (now (row .entry)) (now (line .entry)) (now (row .exit)) (now (line .exit)) ⌝ }
+{
+    let c = cofactors(m, m, line[0]);
+    let g = c.divisor;
+    let t = c.t;
+    multiples(&mut row[1..], &mut line[1..], m, t, negate(m / g, m));
+    row[0] = g;
+}
 
 // One column. Nothing is done where the line's entry is 0, and the row stays where its pivot divides the entry.
 pub fn insert_at(row: &mut [u32], line: &mut [u32], m: u32)
@@ -19,7 +33,9 @@ pub fn insert_at(row: &mut [u32], line: &mut [u32], m: u32)
     let d = row[0];
     let v = line[0];
     if v > 0 {
-        if v % d == 0 {
+        if d == m {
+            insert_first(row, line, m);
+        } else if v % d == 0 {
             reduce(&row[1..], &mut line[1..], m, v / d);
         } else {
             let c = cofactors(m, d, v);

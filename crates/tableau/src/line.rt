@@ -53,3 +53,22 @@ pub fn combine_both(row: &mut [u32], line: &mut [u32], m: u32, s: u32, t: u32, p
         i += 1;
     }
 }
+
+// row ← t·line and line ← n·line, both from the old line: a row of zeros combined with the line. Two products for each entry.
+pub fn multiples(row: &mut [u32], line: &mut [u32], m: u32, t: u32, n: u32)
+    requires { ⌜ (t < m) × (n < m) × (length (now row) ≡ length (now line)) ⌝ }
+    ensures { λ _. ⌜ now (row .exit) ≡ combine m 0 t (now (line .entry)) (now (line .entry)) ⌝ }
+    ensures { λ _. ⌜ now (line .exit) ≡ combine m 0 n (now (line .entry)) (now (line .entry)) ⌝ }
+{
+    let t_reciprocal = reciprocal(t, m);
+    let n_reciprocal = reciprocal(n, m);
+    let mut i = 0;
+    while i < line.len() {
+        let b = line[i];
+        let x = mul_by(t, t_reciprocal, b, m);
+        let left = mul_by(n, n_reciprocal, b, m);
+        row[i] = x;
+        line[i] = left;
+        i += 1;
+    }
+}

@@ -1,4 +1,4 @@
--- `insertion::insert_at` meets its contract: a law of proofs/Column.antt for each way out.
+-- `insertion::insert_at` meets its contract: a row that holds nothing yet by the callee, and a law of proofs/Column.antt for each other way out.
 use mathlib.Core.Path.{sym, ap, _∙_, subst}
 use Prim.Native.Nat.{ℕ, _-_, _/_}
 use native.Mathlib.Omega.{arith}
@@ -18,9 +18,12 @@ slice-read-d c = search needs
 slice-read-v : tie.Need-slice-read-v
 slice-read-v c = search needs
 
-rem-if2 : tie.Need-rem-if2
-rem-if2 c =
-    let z = c .before .before .before .before .before in
+insert-first-requires : tie.Need-insert-first-requires
+insert-first-requires c κs = search needs
+
+rem-if3 : tie.Need-rem-if3
+rem-if3 c =
+    let z = c .before .before .before .before .before .before in
     omega (arith, row-head (z .args .m) (z .args .row .now) (z .pre .0) (z .pre .2))
 
 sub-reduce : tie.Need-sub-reduce
@@ -43,12 +46,12 @@ part-reduce-end-2 c = search needs
 
 div-reduce : tie.Need-div-reduce
 div-reduce c =
-    let z = c .before .before .before .before .before .before .before .before .before in
+    let z = c .before .before .before .before .before .before .before .before .before .before in
     omega (arith, row-head (z .args .m) (z .args .row .now) (z .pre .0) (z .pre .2))
 
 reduce-requires : tie.Need-reduce-requires
 reduce-requires c κs =
-    let z = c .before .before .before .before .before .before .before .before .before in
+    let z = c .before .before .before .before .before .before .before .before .before .before in
     let R = z .args .row .now in
     let W = z .args .line .now in (
       omega (arith, below-at (z .args .m) 0 W (z .pre .3) (omega arith), div-le-self (getD W 0 0) (getD R 0 0)),
@@ -58,7 +61,7 @@ reduce-requires c κs =
 
 cofactors-requires : tie.Need-cofactors-requires
 cofactors-requires c κs =
-    let z = c .before .before .before .before .before .before in
+    let z = c .before .before .before .before .before .before .before in
     omega (arith, row-head (z .args .m) (z .args .row .now) (z .pre .0) (z .pre .2))
 
 sub-combine-both : tie.Need-sub-combine-both
@@ -81,13 +84,13 @@ part-combine-both-end-2 c = search needs
 
 div-combine-both : tie.Need-div-combine-both
 div-combine-both c =
-    let z = c .before .before .before .before .before .before .before .before .before in
+    let z = c .before .before .before .before .before .before .before .before .before .before in
     divisor-positive (z .args .m) (getD (z .args .row .now) 0 0) (getD (z .args .line .now) 0 0) (c .before .before .cofactors .result)
     (omega arith) (c .before .before .cofactors .ensures .0)
 
 div-negate : tie.Need-div-negate
 div-negate c =
-    let z = c .before .before .before .before .before .before .before .before .before in
+    let z = c .before .before .before .before .before .before .before .before .before .before in
     divisor-positive (z .args .m) (getD (z .args .row .now) 0 0) (getD (z .args .line .now) 0 0) (c .before .before .cofactors .result)
     (omega arith) (c .before .before .cofactors .ensures .0)
 
@@ -96,7 +99,7 @@ negate-requires c κs = search needs
 
 combine-both-requires : tie.Need-combine-both-requires
 combine-both-requires c κs =
-    let z = c .before .before .before .before .before .before .before .before .before .before in
+    let z = c .before .before .before .before .before .before .before .before .before .before .before in
     let R = z .args .row .now in
     let W = z .args .line .now in (
       omega arith,
@@ -120,11 +123,7 @@ same-length-2 : tie.Need-same-length-2
 same-length-2 c = search needs
 
 returns : tie.Need-returns
-returns c =
-    let z = c .before .before .before .before .before .before .before .before .before .before .before .before in
-    let a = z .args in
-    column-divided (a .m) (a .row .now) (a .line .now) (c .before .before .reduce .last .1 .0)
-    (z .pre .0) (z .pre .1) (z .pre .2) (z .pre .3) (omega arith) (omega arith) (c .before .before .reduce .ensures)
+returns c = search needs
 
 same-length-3 : tie.Need-same-length-3
 same-length-3 c = search needs
@@ -134,7 +133,20 @@ same-length-4 c = search needs
 
 returns-2 : tie.Need-returns-2
 returns-2 c =
-    let z = c .before .before .before .before .before .before .before .before .before .before .before .before .before .before .before in
+    let z = c .before .before .before .before .before .before .before .before .before .before .before .before .before in
+    let a = z .args in
+    column-divided (a .m) (a .row .now) (a .line .now) (c .before .before .reduce .last .1 .0)
+    (z .pre .0) (z .pre .1) (z .pre .2) (z .pre .3) (omega arith) (omega arith) (c .before .before .reduce .ensures)
+
+same-length-5 : tie.Need-same-length-5
+same-length-5 c = search needs
+
+same-length-6 : tie.Need-same-length-6
+same-length-6 c = search needs
+
+returns-3 : tie.Need-returns-3
+returns-3 c =
+    let z = c .before .before .before .before .before .before .before .before .before .before .before .before .before .before .before .before in
     let a = z .args in
     let f = c .before .before .before .before .before .before .before .before .cofactors in
     let k = c .before .before .before .before .combine-both in
@@ -147,8 +159,8 @@ returns-2 c =
     (n .ensures .0))
     (k .ensures .0) (k .ensures .1)
 
-returns-3 : tie.Need-returns-3
-returns-3 c =
+returns-4 : tie.Need-returns-4
+returns-4 c =
     let z = c .before .before .before .before .before in
     column-zero (z .args .m) (z .args .row .now) (z .args .line .now) (z .pre .0) (z .pre .1) (z .pre .2) (z .pre .3) (omega arith)
 
@@ -158,7 +170,8 @@ insert-at-spec =
     (tie.spec
     slice-read-d
     slice-read-v
-    rem-if2
+    insert-first-requires
+    rem-if3
     sub-reduce
     part-reduce-start
     part-reduce-end
@@ -185,4 +198,7 @@ insert-at-spec =
     same-length-3
     same-length-4
     returns-2
-    returns-3)
+    same-length-5
+    same-length-6
+    returns-3
+    returns-4)
