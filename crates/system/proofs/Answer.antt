@@ -24,7 +24,7 @@ use Rattle.elimination.proofs.Tableau.{length-tableau, good-tableau}
 use Rattle.elimination.proofs.Answer.{answer-start, answer-none, answer-step, answer-no-step}
 use Rattle.elimination.specs.Multipliers.{multipliersOf}
 use Rattle.system.specs.Block.{blockWith, blockOf}
-use Rattle.system.specs.Reading.{readVector, readStep, readSteps, readVectors, Laid, vectorsWith, answerVectors}
+use Rattle.system.specs.Model.Reading.{readVector, readStep, readSteps, readVectors, Laid, vectorsWith, answerVectors}
 
 -- the same vector, in the tableau's words
 step-vector : (m n i j e : ℕ) (B : List (List ℕ)) → i + suc j ≡ n → tableauStep m i j B e ≡ readVector m n B i e

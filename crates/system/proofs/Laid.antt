@@ -16,7 +16,7 @@ use borrow.Author.Tests.{eq-eqb, ne-eqb}
 use borrow.Rule.Slice.PartMut.{mid-len}
 use Rattle.equations.specs.Answer.{andThen}
 use Rattle.elimination.specs.Basis.{pivot}
-use Rattle.system.specs.Reading.{Laid, readVector, readStep, readSteps}
+use Rattle.system.specs.Model.Reading.{Laid, readVector, readStep, readSteps}
 
 module _ (m n i : ℕ) (B : List (List ℕ)) (out : List ℕ) where
   pub laid-none : pivot i B ≡ 1 → Laid n (andThen (readStep m n B i) []) out 0

@@ -15,7 +15,7 @@ use Rattle.elimination.specs.Substitution.{extend}
 use Rattle.elimination.specs.Tableau.{turned}
 use Rattle.elimination.proofs.Leading.{take-zeros}
 use Rattle.tableau.specs.Packed.{rows, Kept}
-use Rattle.system.specs.Reading.{readVector}
+use Rattle.system.specs.Model.Reading.{readVector}
 use Rattle.system.proofs.Rows.{extend-rows, extend-zeros}
 
 abbrev pub seed : ℕ → ℕ → List ℕ

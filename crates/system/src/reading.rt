@@ -6,7 +6,7 @@ ghost use lib.ListN.{length};
 ghost use Rattle.equations.specs.Answer.{andThen};
 ghost use Rattle.elimination.specs.Basis.{pivot};
 ghost use Rattle.tableau.specs.Packed.{rows, triangle};
-ghost use Rattle.system.specs.Reading.{rowsIn, Readable, Laid, readVector, readStep, readSteps, readVectors};
+ghost use Rattle.system.specs.Model.Reading.{rowsIn, Readable, Laid, readVector, readStep, readSteps, readVectors};
 use tableau::filling::turn;
 use tableau::substitution::extend;
 

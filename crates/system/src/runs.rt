@@ -7,7 +7,7 @@ ghost use Rattle.elimination.specs.Multipliers.{multipliersOf};
 ghost use Rattle.equations.specs.Lines.{equationsOf};
 ghost use Rattle.tableau.specs.Packed.{triangle};
 ghost use Rattle.system.specs.Posed.{Posed};
-ghost use Rattle.system.specs.Reading.{Laid, answerVectors};
+ghost use Rattle.system.specs.Model.Reading.{Laid, answerVectors};
 use crate::reading::pivot_at;
 use crate::reading::vectors_into;
 use slices::copying::copy;

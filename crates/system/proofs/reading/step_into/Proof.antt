@@ -9,7 +9,7 @@ use lib.ListN.{length}
 use borrow.Author.Needs.{needs}
 use Rattle.equations.specs.Answer.{andThen}
 use Rattle.elimination.specs.Basis.{pivot}
-use Rattle.system.specs.Reading.{rowsIn, Readable, Laid, readVector, readStep}
+use Rattle.system.specs.Model.Reading.{rowsIn, Readable, Laid, readVector, readStep}
 use Rattle.system.proofs.Rows.{triangle-within, pivot-kept}
 use Rattle.system.proofs.Laid.{laid-none, laid-one}
 use Rattle.system.proofs.reading.step_into.Statement.{statement}

@@ -5,7 +5,7 @@ use Prim.Native.Nat.{_+_, _-_, _*_}
 use native.Mathlib.Omega.{arith}
 use lib.ListN.{length, drop}
 use borrow.Author.Needs.{needs}
-use Rattle.system.specs.Reading.{rowsIn}
+use Rattle.system.specs.Model.Reading.{rowsIn}
 use Rattle.system.proofs.Laid.{Left, left-all, left-less, left-none, room, few, room-length}
 use Rattle.system.proofs.reading.steps_into.Statement.{statement}
 use Rattle.system.proofs.reading.steps_into.Tie as tie

@@ -8,7 +8,7 @@ use lib.Seq.{length-take-le}
 use borrow.Author.Needs.{needs}
 use Rattle.elimination.specs.Tableau.{turned}
 use Rattle.tableau.specs.Packed.{rows, triangle, Kept}
-use Rattle.system.specs.Reading.{Readable}
+use Rattle.system.specs.Model.Reading.{Readable}
 use Rattle.system.proofs.Rows.{triangle-mono}
 use Rattle.system.proofs.Seed.{seed, length-seed, seed-front, seed-below, seed-vector, kept-front}
 use Rattle.system.proofs.reading.vector_into.Statement.{statement}

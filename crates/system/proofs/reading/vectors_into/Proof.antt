@@ -6,7 +6,7 @@ use native.Mathlib.Omega.{arith}
 use lib.ListN.{length, drop}
 use lib.Seq.{length-take-le}
 use Rattle.slices.proofs.Parts.{putBack, put-behind}
-use Rattle.system.specs.Reading.{rowsIn, Laid, readVector, readSteps, readVectors}
+use Rattle.system.specs.Model.Reading.{rowsIn, Laid, readVector, readSteps, readVectors}
 use Rattle.system.proofs.Laid.{laid-cons}
 use borrow.Author.Needs.{needs}
 use Rattle.system.proofs.reading.vectors_into.Statement.{statement}

@@ -12,7 +12,7 @@ use Rattle.elimination.specs.Tableau.{tableau}
 use Rattle.equations.specs.Lines.{equationsOf}
 use Rattle.tableau.specs.Packed.{rows, triangle, Kept}
 use Rattle.system.specs.Posed.{Posed}
-use Rattle.system.specs.Reading.{Readable, Laid, readVectors, answerVectors}
+use Rattle.system.specs.Model.Reading.{Readable, Laid, readVectors, answerVectors}
 use Rattle.system.proofs.Rows.{triangle-within}
 use Rattle.system.proofs.Lines.{equations-shaped}
 use Rattle.system.proofs.Laid.{few}
