@@ -6,6 +6,7 @@ pub mod Parts
 pub mod Packed
 pub mod Column
 pub mod Walk
+pub mod Walked
 pub mod Sums
 pub mod Extension
 pub mod Lines
