@@ -5,6 +5,7 @@ pub mod Stores
 pub mod Packed
 pub mod Column
 pub mod Walk
+pub mod Walked
 pub mod Sums
 pub mod Extension
 pub mod Lines

@@ -56,7 +56,8 @@ pub fn insert_at(row: &mut [u32], line: &mut [u32], m: u32)
     }
 }
 
-// The walk over w columns. The rows behind the first one and the line behind its first entry are again a basis and a line.
+// The walk over w columns. The row of column j begins at `at`; the rows from there on and the line from its entry j on are again
+// a basis and a line.
 pub fn insert(basis: &mut [u32], line: &mut [u32], m: u32, w: usize)
     requires { ⌜ (w ≤ length (now line)) × (length (now basis) ≡ triangle w (length (now line))) ⌝ }
     requires { ⌜ Kept m (rows w (length (now line)) (now basis)) × Below m (now line) ⌝ }
@@ -64,9 +65,13 @@ pub fn insert(basis: &mut [u32], line: &mut [u32], m: u32, w: usize)
         ≡ insert m (rows w (length (now (line .entry))) (now (basis .entry))) (now (line .entry)) ⌝ }
     ensures { λ _. ⌜ Kept m (rows w (length (now (line .entry))) (now (basis .exit))) ⌝ }
 {
-    if w > 0 {
-        let len = line.len();
-        insert_at(&mut basis[..len], line, m);
-        insert(&mut basis[len..], &mut line[1..], m, w - 1);
+    let len = line.len();
+    let mut at: usize = 0;
+    let mut j: usize = 0;
+    while j < w {
+        let end = at + (len - j);
+        insert_at(&mut basis[at..end], &mut line[j..], m);
+        at = end;
+        j += 1;
     }
 }
