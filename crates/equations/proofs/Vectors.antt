@@ -4,6 +4,7 @@
 --   vector-of                      such a list is a vector
 --   below-combine                  a combination mod m has entries below m
 --   below-zeros                    zeros are below m
+--   below-at, below-take, below-drop   an entry, the front and the rest of a list of residues
 --   all-below                      `allBelow` is the test of that
 --   all-below-on, all-below-stop   one number more is looked at: it is below m, or it is not
 --   before-asym, before-irrefl     the order is strict
@@ -16,7 +17,7 @@ use Prim.Native.Nat.{ℕ, zero, suc, _+_, _≤_, _<_}
 use native.Mathlib.Nat.{suc-inj, mod-lt}
 use native.Mathlib.Numerals.{add-one}
 use native.Mathlib.Omega.{arith}
-use lib.ListN.{length, drop, getD, replicate}
+use lib.ListN.{length, take, drop, getD, replicate}
 use lib.Seq.{drop-cons}
 use lib.Dec.{T, ltb, ltb→lt, lt→ltb}
 use mir.Facts.{and-yes, yes-and}
@@ -49,6 +50,21 @@ pub below-combine : (m s t : ℕ) (v w : List ℕ) → 0 < m → Below m (combin
 below-combine m s t [] w pos = tt
 below-combine m s t (x ∷ v) [] pos = tt
 below-combine m s t (x ∷ v) (y ∷ w) pos = (mod-lt _ pos, below-combine m s t v w pos)
+
+pub below-at : (m i : ℕ) (v : List ℕ) → Below m v → i < length v → getD v i 0 < m
+below-at m i [] h l = absurd (omega arith)
+below-at m zero (x ∷ v) h l = h .0
+below-at m (suc i) (x ∷ v) h l = below-at m i v (h .1) (omega arith)
+
+pub below-take : (m i : ℕ) (v : List ℕ) → Below m v → Below m (take i v)
+below-take m zero v h = tt
+below-take m (suc i) [] h = tt
+below-take m (suc i) (x ∷ v) h = (h .0, below-take m i v (h .1))
+
+pub below-drop : (m i : ℕ) (v : List ℕ) → Below m v → Below m (drop i v)
+below-drop m zero v h = h
+below-drop m (suc i) [] h = tt
+below-drop m (suc i) (x ∷ v) h = below-drop m i v (h .1)
 
 pub below-zeros : (m j : ℕ) → 0 < m → Below m (replicate j 0)
 below-zeros m zero pos = tt

@@ -19,13 +19,12 @@ use Rattle.equations.specs.Lists.{every}
 use Rattle.equations.specs.Equation.{Equation, solves, homogeneous}
 use Rattle.equations.specs.Claim.{noSolution, from, passes}
 use Rattle.equations.proofs.Truth.{true-or-false}
-use Rattle.equations.proofs.Vectors.{vector-of}
+use Rattle.equations.proofs.Vectors.{vector-of, below-take}
 use Rattle.elimination.specs.Basis.{basis, pivot}
 use Rattle.elimination.specs.Tableau.{tableau}
 use Rattle.elimination.specs.Marking.{agree, claimRight}
 use Rattle.elimination.proofs.Marking.{marking, marking-none}
 use Rattle.equations.specs.Lines.{equationsOf}
-use Rattle.tableau.proofs.Lines.{below-take}
 use Rattle.system.specs.Posed.{Posed}
 use Rattle.system.specs.Claims.{Claimed, claimOf, vectorsOf}
 use Rattle.system.proofs.Lines.{equations-shaped}

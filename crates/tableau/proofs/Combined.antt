@@ -3,7 +3,6 @@
 --   combined-start, -next, -end   before the first turn, one turn, after the last one
 --   combined-read                 what the next turn reads is still that of o
 --   Both, both-start, -next, -end two combinations at once, the first stored over a and the second over b
---   below-at, below-drop          an entry, and the rest, of a list of residues
 --   minus-is                      p·a - b is the combination with minus 1
 use mathlib.Core.Path.{_≡_, refl, sym, ap, ap₂, _∙_}
 use mathlib.Core.List.{List, [], _∷_, _++_}
@@ -17,7 +16,7 @@ use Rattle.residue.specs.Negative.{negative}
 use Rattle.residue.proofs.Congruent.{congruent-of, congruent-of-eq, congruent-refl, congruent-sym, congruent-trans}
 use Rattle.residue.proofs.Congruent.{congruent-add, congruent-mul, congruent-mod, congruent-cancel}
 use Rattle.residue.proofs.Negative.{negative-is}
-use Rattle.equations.specs.Vectors.{combine, Below}
+use Rattle.equations.specs.Vectors.{combine}
 
 abbrev pub Combined : ℕ → ℕ → ℕ → List ℕ → List ℕ → List ℕ → ℕ → List ℕ → Type 0
 Combined m s t a b o i x = x ≡ combine m s t (take i a) (take i b) ++ drop i o
@@ -102,16 +101,6 @@ both-end m s t p n a b i row line h l B =
     (combined-end m s t i a b a row h refl e (B .row-is), combined-end m p n i a b b line h (sym h) e (B .line-is))
 
 -- ---- entries
-
-pub below-at : (m i : ℕ) (v : List ℕ) → Below m v → i < length v → getD v i 0 < m
-below-at m i [] h l = absurd (omega arith)
-below-at m zero (x ∷ v) h l = h .0
-below-at m (suc i) (x ∷ v) h l = below-at m i v (h .1) (omega arith)
-
-pub below-drop : (m i : ℕ) (v : List ℕ) → Below m v → Below m (drop i v)
-below-drop m zero v h = h
-below-drop m (suc i) [] h = tt
-below-drop m (suc i) (x ∷ v) h = below-drop m i v (h .1)
 
 -- r + b is p·a up to one m
 pub minus-is : (m p a b r k : ℕ) → r < m → r + b ≡ (p * a) % m + k * m → r ≡ (p * a + negative m 1 % m * b) % m

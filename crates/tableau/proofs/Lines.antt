@@ -1,5 +1,5 @@
 -- Lines of equations, and the lists of numbers that hold them.
---   below-take, below-lent, below-unit  residues
+--   below-lent, below-unit              residues
 --   turned-append, turned-reverse       a vector turned round, in front of other numbers
 --   load-length, load-is, load-below    the parts of a line put together: the unknowns T, the constant v, the carried columns U
 --   equations-none, equations-more      a list of numbers without a whole line, and with one
@@ -19,13 +19,7 @@ use Rattle.equations.specs.Vectors.{Below}
 use Rattle.elimination.specs.Tableau.{line, unit, turned}
 use Rattle.elimination.proofs.Turned.{below-turned}
 use Rattle.equations.specs.Lines.{equationAt, equationsWithin, equationsOf}
-use Rattle.equations.proofs.Vectors.{below-zeros}
-use Rattle.tableau.proofs.Combined.{below-drop}
-
-pub below-take : (m i : ℕ) (v : List ℕ) → Below m v → Below m (take i v)
-below-take m zero v h = tt
-below-take m (suc i) [] h = tt
-below-take m (suc i) (x ∷ v) h = (h .0, below-take m i v (h .1))
+use Rattle.equations.proofs.Vectors.{below-zeros, below-drop, below-take}
 
 pub below-lent : (m i : ℕ) (v : List ℕ) → Below m v → Below m (lent i v)
 below-lent m i v h = subst (Below m) (sym (lent-is i v)) (below-drop m i v h)

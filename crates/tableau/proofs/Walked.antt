@@ -11,11 +11,11 @@ use native.Mathlib.Omega.{arith}
 use lib.ListN.{length, take, drop, length-append, length-drop, take-append-drop}
 use lib.Seq.{take-at, drop-at, drop-drop, length-take-le}
 use Rattle.equations.specs.Vectors.{Below}
+use Rattle.equations.proofs.Vectors.{below-drop}
 use Rattle.elimination.specs.Basis.{insert}
 use Rattle.tableau.specs.Packed.{rows, triangle, RowKept, Kept}
 use Rattle.tableau.specs.Column.{Inserted}
 use Rattle.slices.proofs.Parts.{lent, putBack, lent-is, put-back-is}
-use Rattle.tableau.proofs.Combined.{below-drop}
 use Rattle.tableau.proofs.Packed.{rows-split, rows-behind, triangle-front, triangle-behind}
 use Rattle.tableau.proofs.Walk.{kept-front, kept-behind}
 

@@ -6,7 +6,7 @@ use native.Mathlib.Omega.{arith}
 use lib.ListN.{length}
 use lib.Seq.{length-take-le}
 use borrow.Author.Needs.{needs}
-use Rattle.tableau.proofs.Lines.{below-take}
+use Rattle.equations.proofs.Vectors.{below-take}
 use Rattle.tableau.specs.Packed.{triangle}
 use Rattle.system.proofs.Spans.{Spanned, spanned-start, spanned-next, spanned-end}
 use Rattle.system.proofs.spanning.span.Statement.{statement}

@@ -6,7 +6,7 @@ use native.Mathlib.Omega.{arith}
 use lib.ListN.{length}
 use lib.Seq.{length-take-le}
 use borrow.Author.Needs.{needs}
-use Rattle.tableau.proofs.Lines.{below-take}
+use Rattle.equations.proofs.Vectors.{below-take}
 use Rattle.tableau.proofs.Built.{Built, built-start, built-next, built-end}
 use Rattle.tableau.proofs.building.build.Statement.{statement}
 use Rattle.tableau.proofs.building.build.Tie as tie

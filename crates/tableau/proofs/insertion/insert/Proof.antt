@@ -1,6 +1,6 @@
 -- `insertion::insert` meets its contract. The invariant: what the rest of the walk makes of the rows that are left makes the
 -- whole. The measure is the number of rows that are left.
-use mathlib.Core.Path.{_≡_, refl, ap, _∙_}
+use mathlib.Core.Path.{_≡_, refl}
 use Prim.Native.Nat.{_+_, _-_}
 use native.Mathlib.Omega.{arith}
 use lib.ListN.{length}

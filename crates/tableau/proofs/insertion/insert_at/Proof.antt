@@ -7,7 +7,7 @@ use borrow.Author.Needs.{needs}
 use native.Mathlib.Nat.{div-le-self}
 use Rattle.equations.specs.Vectors.{Below}
 use Rattle.slices.proofs.Parts.{lent-is, lent-length}
-use Rattle.tableau.proofs.Combined.{below-at, below-drop}
+use Rattle.equations.proofs.Vectors.{below-at, below-drop}
 use Rattle.tableau.proofs.Column.{row-head, divisor-positive, reduction, column-zero, column-divided, column-reduced}
 use Rattle.tableau.proofs.insertion.insert_at.Statement.{statement}
 use Rattle.tableau.proofs.insertion.insert_at.Tie as tie

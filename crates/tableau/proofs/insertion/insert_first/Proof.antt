@@ -2,7 +2,7 @@
 use native.Mathlib.Omega.{arith}
 use lib.ListN.{getD}
 use borrow.Author.Needs.{needs}
-use Rattle.tableau.proofs.Combined.{below-at}
+use Rattle.equations.proofs.Vectors.{below-at}
 use Rattle.tableau.proofs.Column.{row-head, divisor-positive, column-first}
 use Rattle.tableau.proofs.insertion.insert_first.Statement.{statement}
 use Rattle.tableau.proofs.insertion.insert_first.Tie as tie

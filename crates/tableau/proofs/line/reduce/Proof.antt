@@ -6,7 +6,8 @@ use native.Mathlib.Omega.{arith}
 use lib.ListN.{length, getD, length-set}
 use borrow.Author.Needs.{needs}
 use Rattle.residue.specs.Negative.{negative}
-use Rattle.tableau.proofs.Combined.{Combined, combined-read, combined-next, combined-end, below-at}
+use Rattle.equations.proofs.Vectors.{below-at}
+use Rattle.tableau.proofs.Combined.{Combined, combined-read, combined-next, combined-end}
 use Rattle.tableau.proofs.line.reduce.Statement.{statement}
 use Rattle.tableau.proofs.line.reduce.Tie as tie
 
