@@ -1,6 +1,7 @@
 // A line put into a basis, column by column.
 ghost use mathlib.Core.Path.{_≡_};
-ghost use Prim.Native.Nat.{_<_, _≤_};
+ghost use Prim.Native.Nat.{_/_, _%_, _<_, _≤_};
+ghost use lib.Dec.{eqb};
 ghost use lib.ListN.{length, getD};
 ghost use Rattle.equations.specs.Vectors.{Below};
 ghost use Rattle.elimination.specs.Basis.{insert};
@@ -25,6 +26,21 @@ fn insert_first(row: &mut [u32], line: &mut [u32], m: u32)
     row[0] = g;
 }
 
+// Most pivots are 1 soon, and a division by 1 is left out.
+fn divides(d: u32, v: u32) -> bool
+    requires { ⌜ 0 < d ⌝ }
+    ensures { λ r. ⌜ r ≡ eqb (v % d) 0 ⌝ }
+{
+    if d == 1 { true } else { v % d == 0 }
+}
+
+fn quotient(v: u32, d: u32) -> u32
+    requires { ⌜ 0 < d ⌝ }
+    ensures { λ r. ⌜ r ≡ v / d ⌝ }
+{
+    if d == 1 { v } else { v / d }
+}
+
 // One column. Nothing is done where the line's entry is 0, and the row stays where its pivot divides the entry.
 pub fn insert_at(row: &mut [u32], line: &mut [u32], m: u32)
     requires { ⌜ (0 < length (now row)) × (length (now row) ≡ length (now line)) × RowKept m (now row) × Below m (now line) ⌝ }
@@ -35,8 +51,8 @@ pub fn insert_at(row: &mut [u32], line: &mut [u32], m: u32)
     if v > 0 {
         if d == m {
             insert_first(row, line, m);
-        } else if v % d == 0 {
-            reduce(&row[1..], &mut line[1..], m, v / d);
+        } else if divides(d, v) {
+            reduce(&row[1..], &mut line[1..], m, quotient(v, d));
         } else {
             let c = cofactors(m, d, v);
             let g = c.divisor;
