@@ -10,7 +10,7 @@ use Rattle.residue.specs.Negative.{negative}
 use Rattle.equations.specs.Vectors.{combine, Below}
 use Rattle.tableau.proofs.Parts.{lent, lent-is, lent-length}
 use Rattle.tableau.proofs.Combined.{below-at, below-drop}
-use Rattle.tableau.proofs.Column.{row-head, divisor-positive, reduction, column-zero, column-divided, column-reduced}
+use Rattle.tableau.proofs.Column.{row-head, divisor-positive, reduction, column-zero, column-divided, column-reduced, not-used-up}
 use Rattle.tableau.proofs.insertion.insert_at.Statement.{statement}
 use Rattle.tableau.proofs.insertion.insert_at.Tie as tie
 
@@ -140,11 +140,13 @@ returns-2 c =
     let R = a .row .now in
     let W = a .line .now in
     let none : getD W 0 0 % getD R 0 0 ≡ 0 =
-    eqb-true _ _ (sym (c .before .before .before .before .before .before .before .before .divides .ensures) ∙ c .before .before .before .before .before .before .before .if3 .taken) in
-    column-divided (a .m) R W (c .before .before .reduce .last .1 .0)
-    (z .pre .0) (z .pre .1) (z .pre .2) (z .pre .3) (omega arith) none
-    (c .before .before .reduce .ensures
-    ∙ ap (λ (p : ℕ). combine (a .m) p (negative (a .m) 1 % a .m) (lent 1 R) (lent 1 W)) (c .before .before .before .quotient .ensures))
+    eqb-true _ _ (sym (c .before .before .before .before .before .before .before .before .divides .ensures) ∙ c .before .before .before .before .before .before .before .if3 .taken) in (
+      column-divided (a .m) R W (c .before .before .reduce .last .1 .0)
+          (z .pre .0) (z .pre .1) (z .pre .2) (z .pre .3) (omega arith) none
+          (c .before .before .reduce .ensures
+          ∙ ap (λ (p : ℕ). combine (a .m) p (negative (a .m) 1 % a .m) (lent 1 R) (lent 1 W)) (c .before .before .before .quotient .ensures)),
+      not-used-up,
+    )
 
 same-length-5 : tie.Need-same-length-5
 same-length-5 c = search needs
@@ -158,20 +160,24 @@ returns-3 c =
     let a = z .args in
     let f = c .before .before .before .before .before .before .before .before .cofactors in
     let k = c .before .before .before .before .combine-both in
-    let n = c .before .before .before .before .before .negate in
-    column-reduced (a .m) (f .result .divisor) (f .result .s) (f .result .t) (getD (a .line .now) 0 0 / f .result .divisor)
-    (n .result)
-    (a .row .now) (a .line .now) (k .last .0) (k .last .1 .0)
-    (z .pre .0) (z .pre .1) (z .pre .2) (z .pre .3) (omega (arith, c .before .before .before .before .before .before .before .before .before .before .before .before .if1 .taken))
-    (eqb-false _ _ (sym (c .before .before .before .before .before .before .before .before .before .before .divides .ensures) ∙ c .before .before .before .before .before .before .before .before .before .if3 .left))
-    (reduction (a .m) (getD (a .row .now) 0 0) (getD (a .line .now) 0 0) (f .result) (n .result) (f .ensures .0)
-    (n .ensures .0))
-    (k .ensures .0) (k .ensures .1)
+    let n = c .before .before .before .before .before .negate in (
+      column-reduced (a .m) (f .result .divisor) (f .result .s) (f .result .t) (getD (a .line .now) 0 0 / f .result .divisor)
+          (n .result)
+          (a .row .now) (a .line .now) (k .last .0) (k .last .1 .0)
+          (z .pre .0) (z .pre .1) (z .pre .2) (z .pre .3) (omega (arith, c .before .before .before .before .before .before .before .before .before .before .before .before .if1 .taken))
+          (eqb-false _ _ (sym (c .before .before .before .before .before .before .before .before .before .before .divides .ensures) ∙ c .before .before .before .before .before .before .before .before .before .if3 .left))
+          (reduction (a .m) (getD (a .row .now) 0 0) (getD (a .line .now) 0 0) (f .result) (n .result) (f .ensures .0)
+          (n .ensures .0))
+          (k .ensures .0) (k .ensures .1),
+      not-used-up,
+    )
 
 returns-4 : tie.Need-returns-4
 returns-4 c =
-    let z = c .before .before .before .before .before in
-    column-zero (z .args .m) (z .args .row .now) (z .args .line .now) (z .pre .0) (z .pre .1) (z .pre .2) (z .pre .3) (omega arith)
+    let z = c .before .before .before .before .before in (
+      column-zero (z .args .m) (z .args .row .now) (z .args .line .now) (z .pre .0) (z .pre .1) (z .pre .2) (z .pre .3) (omega arith),
+      not-used-up,
+    )
 
 pub insert-at-spec : {M : Type 1} → statement M
 insert-at-spec =
@@ -180,6 +186,9 @@ insert-at-spec =
     slice-read-d
     slice-read-v
     insert-first-requires
+    same-length
+    same-length-2
+    returns
     divides-requires
     sub-reduce
     part-reduce-start
@@ -201,9 +210,6 @@ insert-at-spec =
     negate-requires
     combine-both-requires
     slice-write-row
-    same-length
-    same-length-2
-    returns
     same-length-3
     same-length-4
     returns-2
