@@ -5,12 +5,14 @@
 --   column-divided                    the pivot divides it
 --   column-reduced                    neither; with `reduction`, its numbers, and `divisor-positive`
 --   column-first                      the row holds nothing yet
+--   first-used-up, not-used-up        whether anything is left of the line
 use mathlib.Core.Path.{_≡_, refl, sym, ap, ap₂, _∙_, subst, subst₂}
+use mathlib.Core.Bool.{true, false}
 use mathlib.Core.List.{List, [], _∷_}
-use Prim.Native.Nat.{ℕ, zero, suc, _+_, _*_, _/_, _%_, _≤_, _<_}
-use native.Mathlib.Nat.{suc-inj, mod-eq-of-lt}
+use Prim.Native.Nat.{ℕ, zero, suc, _+_, _-_, _*_, _/_, _%_, _≤_, _<_}
+use native.Mathlib.Nat.{suc-inj, sub-zero, div-one, zero-mod, mod-self, mod-eq-of-lt}
 use native.Mathlib.Omega.{arith}
-use lib.ListN.{length, getD, set, replicate}
+use lib.ListN.{length, drop, getD, set, replicate}
 use borrow.Author.Tests.{eq-eqb, ne-eqb}
 use Rattle.residue.specs.Gcd.{gcd}
 use Rattle.residue.specs.Bezout.{cofactors}
@@ -24,7 +26,7 @@ use Rattle.equations.proofs.Vectors.{below-combine}
 use Rattle.elimination.specs.Step.{stepOf}
 use Rattle.elimination.specs.Basis.{insert}
 use Rattle.tableau.specs.Packed.{RowKept}
-use Rattle.tableau.specs.Column.{Inserted}
+use Rattle.tableau.specs.Column.{Inserted, UsedUp}
 use Rattle.slices.proofs.Parts.{lent, putBack, lent-is, put-back-is}
 
 pub row-head : (m : ℕ) (R : List ℕ) → 0 < length R → RowKept m R → (0 < getD R 0 0) × (getD R 0 0 ≤ m)
@@ -170,3 +172,35 @@ column-first m c n R W r l h e k b full pos small is minus i j =
     (minus ∙ ap (λ (x : ℕ). negative m (x / c .divisor) % m) (sym full)))
     (i ∙ blank-combine m (c .s) (c .t) R W h e k full)
     (j ∙ blank-combine m (v / c .divisor) n R W h e k full)
+
+-- ---- what is left of the line behind a row that held nothing
+
+insert-zeros : (m k : ℕ) (B : List (List ℕ)) → insert m B (replicate k 0) ≡ B
+insert-zeros m k [] = refl
+insert-zeros m k ([] ∷ B) = refl
+insert-zeros m zero ((d ∷ r) ∷ B) = refl
+insert-zeros m (suc k) ((d ∷ r) ∷ B) = ap {B = List (List ℕ)} (λ C. (d ∷ r) ∷ C) (insert-zeros m k B)
+
+nothing-left : (m : ℕ) (w : List ℕ) → combine m 0 0 w w ≡ replicate (length w) 0
+nothing-left m [] = refl
+nothing-left m (x ∷ w) =
+    let e : 0 * x + 0 * x ≡ 0 = omega arith in
+    ap₂ {C = List ℕ} (λ y u. y ∷ u) (ap (λ (z : ℕ). z % m) e ∙ zero-mod m) (nothing-left m w)
+
+pub first-used-up : (m g n : ℕ) (W l : List ℕ) → 0 < m → 0 < length W → g ≡ 1 → n ≡ negative m (m / g) % m
+    → l ≡ combine m 0 n (lent 1 W) (lent 1 W) → UsedUp m (putBack 1 W l)
+unfolding negative
+first-used-up m g n [] l pos h e f i B = absurd (omega arith)
+first-used-up m g n (v ∷ W) l pos h e f i B =
+    ap (λ (w : List ℕ). insert m B (drop 1 w)) (put-back-is 1 (v ∷ W) l)
+    ∙ ap (insert m B) (i ∙ ap (λ (k : ℕ). combine m 0 k (lent 1 (v ∷ W)) (lent 1 (v ∷ W))) none ∙ nothing-left m (lent 1 (v ∷ W)))
+    ∙ insert-zeros m (length (lent 1 (v ∷ W))) B
+  where
+    none : n ≡ 0
+    none =
+        f ∙ ap (λ (k : ℕ). (m - m / k % m) % m) e
+        ∙ ap (λ (k : ℕ). (m - k % m) % m) (div-one m)
+        ∙ ap (λ (k : ℕ). (m - k) % m) (mod-self m) ∙ ap (λ (k : ℕ). k % m) (sub-zero m) ∙ mod-self m
+
+pub not-used-up : {A : Type 0} → false ≡ true → A
+not-used-up e = let z : _≡_ {A = ℕ} 0 1 = cc in absurd (omega arith)

@@ -3,7 +3,7 @@
 --   Walked                    what holds before column j
 --   walked-first, walked-end  before the first column, and behind the last one
 --   walked-fits, walked-asks  the next row lies in the basis, and may be lent
---   walked-next               from one column to the next
+--   walked-next, walked-stop  from one column to the next, and no further
 use mathlib.Core.Path.{_≡_, refl, sym, ap, ap₂, _∙_, subst}
 use mathlib.Core.List.{List, _∷_, _++_, append-assoc}
 use Prim.Native.Nat.{ℕ, zero, suc, _+_, _-_, _≤_, _<_}
@@ -14,7 +14,7 @@ use Rattle.equations.specs.Vectors.{Below}
 use Rattle.equations.proofs.Vectors.{below-drop}
 use Rattle.elimination.specs.Basis.{insert}
 use Rattle.tableau.specs.Packed.{rows, triangle, RowKept, Kept}
-use Rattle.tableau.specs.Column.{Inserted}
+use Rattle.tableau.specs.Column.{Inserted, UsedUp}
 use Rattle.slices.proofs.Parts.{lent, putBack, lent-is, put-back-is}
 use Rattle.tableau.proofs.Packed.{rows-split, rows-behind, triangle-front, triangle-behind}
 use Rattle.tableau.proofs.Walk.{kept-front, kept-behind}
@@ -170,3 +170,18 @@ module _ (m w l : ℕ) (b₀ L₀ b L : List ℕ) (at j end : ℕ) (W : Walked m
       ((rw size at r-len) ∙ row .0)
       (L′-len ∙ ap length (lent-is j L) ∙ d)
       (rw (size, lent-is j L) at column))
+
+  -- nothing is left of the line
+  pub walked-stop : (r L′ : List ℕ) → length r ≡ length (take (end - at) (drop at b)) → length L′ ≡ length (lent j L)
+      → Inserted m (take (end - at) (drop at b)) (lent j L) r L′ → UsedUp m L′
+      → (rows w l (take at b ++ (r ++ drop (end - at) (drop at b))) ≡ insert m (rows w l b₀) L₀)
+      × Kept m (rows w l (take at b ++ (r ++ drop (end - at) (drop at b))))
+  walked-stop r L′ r-len L′-len column used =
+      let N = walked-next r L′ r-len L′-len column in
+      let b′ = take at b ++ (r ++ drop (end - at) (drop at b)) in
+      let u : drop (j + 1) (putBack j L L′) ≡ drop 1 L′ =
+      ap (drop (j + 1)) (put-back-is j L L′) ∙ sym (drop-drop 1 j (take j L ++ L′))
+      ∙ ap (drop 1) (drop-at (take j L) L′ j (length-take-le j L (omega (arith, W .line-size, W .numbers)))) in
+      rw take-append-drop at (N .finish (drop end b′)
+      (sym (ap (insert m (rows (w - (j + 1)) (l - (j + 1)) (drop end b′))) u ∙ used (rows (w - (j + 1)) (l - (j + 1)) (drop end b′))))
+      (N .kept))

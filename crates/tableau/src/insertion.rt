@@ -1,42 +1,64 @@
 // A line put into a basis, column by column.
 ghost use mathlib.Core.Path.{_≡_};
-ghost use Prim.Native.Nat.{_<_, _≤_};
+ghost use mathlib.Core.Bool.{true};
+ghost use Prim.Native.Nat.{_/_, _%_, _<_, _≤_};
+ghost use lib.Dec.{eqb};
 ghost use lib.ListN.{length, getD};
 ghost use Rattle.equations.specs.Vectors.{Below};
 ghost use Rattle.elimination.specs.Basis.{insert};
 ghost use Rattle.tableau.specs.Packed.{rows, triangle, Kept, RowKept};
-ghost use Rattle.tableau.specs.Column.{Inserted};
+ghost use Rattle.tableau.specs.Column.{Inserted, UsedUp};
 use crate::line::combine_both;
 use crate::line::multiples;
 use crate::line::reduce;
 use residue::extended::cofactors;
 use residue::modular::negate;
 
-// One column whose row holds nothing yet. Behind its pivot m there are zeros only, so that the line alone is multiplied.
-fn insert_first(row: &mut [u32], line: &mut [u32], m: u32)
+// One column whose row holds nothing yet. Behind its pivot m there are zeros only, so that the line alone is multiplied. Where
+// the new pivot is 1, nothing is left of the line.
+fn insert_first(row: &mut [u32], line: &mut [u32], m: u32) -> bool
     requires { ⌜ (0 < length (now row)) × (length (now row) ≡ length (now line)) × RowKept m (now row) × Below m (now line) ⌝ }
     requires { ⌜ (getD (now row) 0 0 ≡ m) × (0 < getD (now line) 0 0) ⌝ }
     ensures { λ _. ⌜ Inserted m (now (row .entry)) (now (line .entry)) (now (row .exit)) (now (line .exit)) ⌝ }
+    ensures { λ r. ⌜ (r ≡ true → UsedUp m (now (line .exit))) ⌝ }
 {
     let c = cofactors(m, m, line[0]);
     let g = c.divisor;
     let t = c.t;
     multiples(&mut row[1..], &mut line[1..], m, t, negate(m / g, m));
     row[0] = g;
+    g == 1
 }
 
-// One column. Nothing is done where the line's entry is 0, and the row stays where its pivot divides the entry.
-pub fn insert_at(row: &mut [u32], line: &mut [u32], m: u32)
+// Most pivots are 1 soon, and a division by 1 is left out.
+fn divides(d: u32, v: u32) -> bool
+    requires { ⌜ 0 < d ⌝ }
+    ensures { λ r. ⌜ r ≡ eqb (v % d) 0 ⌝ }
+{
+    if d == 1 { true } else { v % d == 0 }
+}
+
+fn quotient(v: u32, d: u32) -> u32
+    requires { ⌜ 0 < d ⌝ }
+    ensures { λ r. ⌜ r ≡ v / d ⌝ }
+{
+    if d == 1 { v } else { v / d }
+}
+
+// One column; whether the line is known to be used up. Nothing is done where the line's entry is 0, and the row stays where its
+// pivot divides the entry.
+pub fn insert_at(row: &mut [u32], line: &mut [u32], m: u32) -> bool
     requires { ⌜ (0 < length (now row)) × (length (now row) ≡ length (now line)) × RowKept m (now row) × Below m (now line) ⌝ }
     ensures { λ _. ⌜ Inserted m (now (row .entry)) (now (line .entry)) (now (row .exit)) (now (line .exit)) ⌝ }
+    ensures { λ r. ⌜ (r ≡ true → UsedUp m (now (line .exit))) ⌝ }
 {
     let d = row[0];
     let v = line[0];
     if v > 0 {
         if d == m {
-            insert_first(row, line, m);
-        } else if v % d == 0 {
-            reduce(&row[1..], &mut line[1..], m, v / d);
+            return insert_first(row, line, m);
+        } else if divides(d, v) {
+            reduce(&row[1..], &mut line[1..], m, quotient(v, d));
         } else {
             let c = cofactors(m, d, v);
             let g = c.divisor;
@@ -54,6 +76,7 @@ pub fn insert_at(row: &mut [u32], line: &mut [u32], m: u32)
             row[0] = g;
         }
     }
+    false
 }
 
 // The walk over w columns. The row of column j begins at `at`; the rows from there on and the line from its entry j on are again
@@ -70,7 +93,9 @@ pub fn insert(basis: &mut [u32], line: &mut [u32], m: u32, w: usize)
     let mut j: usize = 0;
     while j < w {
         let end = at + (len - j);
-        insert_at(&mut basis[at..end], &mut line[j..], m);
+        if insert_at(&mut basis[at..end], &mut line[j..], m) {
+            return;
+        }
         at = end;
         j += 1;
     }

@@ -5,7 +5,7 @@ use Prim.Native.Nat.{_+_, _-_}
 use native.Mathlib.Omega.{arith}
 use lib.ListN.{length}
 use borrow.Author.Needs.{needs}
-use Rattle.tableau.proofs.Walked.{Walked, walked-first, walked-end, walked-fits, walked-asks, walked-next}
+use Rattle.tableau.proofs.Walked.{Walked, walked-first, walked-end, walked-fits, walked-asks, walked-next, walked-stop}
 use Rattle.tableau.proofs.insertion.insert.Statement.{statement}
 use Rattle.tableau.proofs.insertion.insert.Tie as tie
 
@@ -66,23 +66,6 @@ insert-at-requires c κs =
     walked-asks (a .m) (a .w) (length (a .line .now)) (a .basis .now) (a .line .now) (l .basis) (l .line) (l .at) (l .j)
     (l .at + (length (a .line .now) - l .j)) (l .inv .1) (omega arith) refl
 
-add-j : tie.Need-add-j Inv-loop μ-loop
-add-j c = search needs
-
-loop-less : tie.Need-loop-less Inv-loop μ-loop
-loop-less c = search needs
-
-loop-again : tie.Need-loop-again Inv-loop μ-loop
-loop-again c =
-    let a = c .before .before .before .before .before .before .before .before .before .before .before .args in
-    let l = c .before .before .before .before .before .before .before .before .loop in
-    let o = c .before .before .before .before .insert-at in (
-      refl,
-      walked-next (a .m) (a .w) (length (a .line .now)) (a .basis .now) (a .line .now) (l .basis) (l .line) (l .at) (l .j)
-          (l .at + (length (a .line .now) - l .j)) (l .inv .1) (omega arith) refl
-          (o .last .0) (o .last .1 .0) (o .kept .0) (o .kept .1 .0) (o .ensures),
-    )
-
 same-length : tie.Need-same-length Inv-loop μ-loop
 same-length c = search needs
 
@@ -91,6 +74,38 @@ same-length-2 c = search needs
 
 returns : tie.Need-returns Inv-loop μ-loop
 returns c =
+    let a = c .before .before .before .before .before .before .before .before .before .before .before .before .args in
+    let l = c .before .before .before .before .before .before .before .before .before .loop in
+    let o = c .before .before .before .before .before .insert-at in
+    walked-stop (a .m) (a .w) (length (a .line .now)) (a .basis .now) (a .line .now) (l .basis) (l .line) (l .at) (l .j)
+    (l .at + (length (a .line .now) - l .j)) (l .inv .1) (omega arith) refl
+    (o .last .0) (o .last .1 .0) (o .kept .0) (o .kept .1 .0) (o .ensures .0) (o .ensures .1 (c .if1 .taken))
+
+add-j : tie.Need-add-j Inv-loop μ-loop
+add-j c = search needs
+
+loop-less : tie.Need-loop-less Inv-loop μ-loop
+loop-less c = search needs
+
+loop-again : tie.Need-loop-again Inv-loop μ-loop
+loop-again c =
+    let a = c .before .before .before .before .before .before .before .before .before .before .before .before .args in
+    let l = c .before .before .before .before .before .before .before .before .before .loop in
+    let o = c .before .before .before .before .before .insert-at in (
+      refl,
+      walked-next (a .m) (a .w) (length (a .line .now)) (a .basis .now) (a .line .now) (l .basis) (l .line) (l .at) (l .j)
+          (l .at + (length (a .line .now) - l .j)) (l .inv .1) (omega arith) refl
+          (o .last .0) (o .last .1 .0) (o .kept .0) (o .kept .1 .0) (o .ensures .0),
+    )
+
+same-length-3 : tie.Need-same-length-3 Inv-loop μ-loop
+same-length-3 c = search needs
+
+same-length-4 : tie.Need-same-length-4 Inv-loop μ-loop
+same-length-4 c = search needs
+
+returns-2 : tie.Need-returns-2 Inv-loop μ-loop
+returns-2 c =
     let a = c .before .before .before .before .args in
     let l = c .before .loop in
     walked-end (a .m) (a .w) (length (a .line .now)) (a .basis .now) (a .line .now) (l .basis) (l .line) (l .at) (l .j)
@@ -114,9 +129,12 @@ insert-spec =
     part-insert-at-start-2
     part-insert-at-end-2
     insert-at-requires
+    same-length
+    same-length-2
+    returns
     add-j
     loop-less
     loop-again
-    same-length
-    same-length-2
-    returns)
+    same-length-3
+    same-length-4
+    returns-2)

@@ -1,14 +1,16 @@
 -- `insertion::insert_at` meets its contract: a row that holds nothing yet by the callee, and a law of proofs/Column.antt for each other way out.
-use mathlib.Core.Path.{sym, ap, _∙_, subst}
-use Prim.Native.Nat.{ℕ, _-_, _/_}
+use mathlib.Core.Path.{_≡_, sym, ap, _∙_, subst}
+use Prim.Native.Nat.{ℕ, _-_, _/_, _%_}
 use native.Mathlib.Omega.{arith}
 use lib.ListN.{getD}
 use borrow.Author.Needs.{needs}
+use borrow.Author.Tests.{eqb-true, eqb-false}
 use native.Mathlib.Nat.{div-le-self}
-use Rattle.equations.specs.Vectors.{Below}
-use Rattle.slices.proofs.Parts.{lent-is, lent-length}
+use Rattle.residue.specs.Negative.{negative}
+use Rattle.equations.specs.Vectors.{combine, Below}
 use Rattle.equations.proofs.Vectors.{below-at, below-drop}
-use Rattle.tableau.proofs.Column.{row-head, divisor-positive, reduction, column-zero, column-divided, column-reduced}
+use Rattle.slices.proofs.Parts.{lent, lent-is, lent-length}
+use Rattle.tableau.proofs.Column.{row-head, divisor-positive, reduction, column-zero, column-divided, column-reduced, not-used-up}
 use Rattle.tableau.proofs.insertion.insert_at.Statement.{statement}
 use Rattle.tableau.proofs.insertion.insert_at.Tie as tie
 
@@ -21,8 +23,8 @@ slice-read-v c = search needs
 insert-first-requires : tie.Need-insert-first-requires
 insert-first-requires c κs = search needs
 
-rem-if3 : tie.Need-rem-if3
-rem-if3 c =
+divides-requires : tie.Need-divides-requires
+divides-requires c κs =
     let z = c .before .before .before .before .before .before in
     omega (arith, row-head (z .args .m) (z .args .row .now) (z .pre .0) (z .pre .2))
 
@@ -44,14 +46,14 @@ part-reduce-start-2 c = search needs
 part-reduce-end-2 : tie.Need-part-reduce-end-2
 part-reduce-end-2 c = search needs
 
-div-reduce : tie.Need-div-reduce
-div-reduce c =
-    let z = c .before .before .before .before .before .before .before .before .before .before in
+quotient-requires : tie.Need-quotient-requires
+quotient-requires c κs =
+    let z = c .before .before .before .before .before .before .before .before .before .before .before in
     omega (arith, row-head (z .args .m) (z .args .row .now) (z .pre .0) (z .pre .2))
 
 reduce-requires : tie.Need-reduce-requires
 reduce-requires c κs =
-    let z = c .before .before .before .before .before .before .before .before .before .before in
+    let z = c .before .before .before .before .before .before .before .before .before .before .before .before in
     let R = z .args .row .now in
     let W = z .args .line .now in (
       omega (arith, below-at (z .args .m) 0 W (z .pre .3) (omega arith), div-le-self (getD W 0 0) (getD R 0 0)),
@@ -61,7 +63,7 @@ reduce-requires c κs =
 
 cofactors-requires : tie.Need-cofactors-requires
 cofactors-requires c κs =
-    let z = c .before .before .before .before .before .before .before in
+    let z = c .before .before .before .before .before .before .before .before in
     omega (arith, row-head (z .args .m) (z .args .row .now) (z .pre .0) (z .pre .2))
 
 sub-combine-both : tie.Need-sub-combine-both
@@ -84,13 +86,13 @@ part-combine-both-end-2 c = search needs
 
 div-combine-both : tie.Need-div-combine-both
 div-combine-both c =
-    let z = c .before .before .before .before .before .before .before .before .before .before in
+    let z = c .before .before .before .before .before .before .before .before .before .before .before in
     divisor-positive (z .args .m) (getD (z .args .row .now) 0 0) (getD (z .args .line .now) 0 0) (c .before .before .cofactors .result)
     (omega arith) (c .before .before .cofactors .ensures .0)
 
 div-negate : tie.Need-div-negate
 div-negate c =
-    let z = c .before .before .before .before .before .before .before .before .before .before in
+    let z = c .before .before .before .before .before .before .before .before .before .before .before in
     divisor-positive (z .args .m) (getD (z .args .row .now) 0 0) (getD (z .args .line .now) 0 0) (c .before .before .cofactors .result)
     (omega arith) (c .before .before .cofactors .ensures .0)
 
@@ -99,7 +101,7 @@ negate-requires c κs = search needs
 
 combine-both-requires : tie.Need-combine-both-requires
 combine-both-requires c κs =
-    let z = c .before .before .before .before .before .before .before .before .before .before .before in
+    let z = c .before .before .before .before .before .before .before .before .before .before .before .before in
     let R = z .args .row .now in
     let W = z .args .line .now in (
       omega arith,
@@ -133,10 +135,18 @@ same-length-4 c = search needs
 
 returns-2 : tie.Need-returns-2
 returns-2 c =
-    let z = c .before .before .before .before .before .before .before .before .before .before .before .before .before in
+    let z = c .before .before .before .before .before .before .before .before .before .before .before .before .before .before .before in
     let a = z .args in
-    column-divided (a .m) (a .row .now) (a .line .now) (c .before .before .reduce .last .1 .0)
-    (z .pre .0) (z .pre .1) (z .pre .2) (z .pre .3) (omega arith) (omega arith) (c .before .before .reduce .ensures)
+    let R = a .row .now in
+    let W = a .line .now in
+    let none : getD W 0 0 % getD R 0 0 ≡ 0 =
+    eqb-true _ _ (sym (c .before .before .before .before .before .before .before .before .divides .ensures) ∙ c .before .before .before .before .before .before .before .if3 .taken) in (
+      column-divided (a .m) R W (c .before .before .reduce .last .1 .0)
+          (z .pre .0) (z .pre .1) (z .pre .2) (z .pre .3) (omega arith) none
+          (c .before .before .reduce .ensures
+          ∙ ap (λ (p : ℕ). combine (a .m) p (negative (a .m) 1 % a .m) (lent 1 R) (lent 1 W)) (c .before .before .before .quotient .ensures)),
+      not-used-up,
+    )
 
 same-length-5 : tie.Need-same-length-5
 same-length-5 c = search needs
@@ -146,23 +156,28 @@ same-length-6 c = search needs
 
 returns-3 : tie.Need-returns-3
 returns-3 c =
-    let z = c .before .before .before .before .before .before .before .before .before .before .before .before .before .before .before .before in
+    let z = c .before .before .before .before .before .before .before .before .before .before .before .before .before .before .before .before .before in
     let a = z .args in
     let f = c .before .before .before .before .before .before .before .before .cofactors in
     let k = c .before .before .before .before .combine-both in
-    let n = c .before .before .before .before .before .negate in
-    column-reduced (a .m) (f .result .divisor) (f .result .s) (f .result .t) (getD (a .line .now) 0 0 / f .result .divisor)
-    (n .result)
-    (a .row .now) (a .line .now) (k .last .0) (k .last .1 .0)
-    (z .pre .0) (z .pre .1) (z .pre .2) (z .pre .3) (omega arith) (λ e. omega arith)
-    (reduction (a .m) (getD (a .row .now) 0 0) (getD (a .line .now) 0 0) (f .result) (n .result) (f .ensures .0)
-    (n .ensures .0))
-    (k .ensures .0) (k .ensures .1)
+    let n = c .before .before .before .before .before .negate in (
+      column-reduced (a .m) (f .result .divisor) (f .result .s) (f .result .t) (getD (a .line .now) 0 0 / f .result .divisor)
+          (n .result)
+          (a .row .now) (a .line .now) (k .last .0) (k .last .1 .0)
+          (z .pre .0) (z .pre .1) (z .pre .2) (z .pre .3) (omega (arith, c .before .before .before .before .before .before .before .before .before .before .before .before .if1 .taken))
+          (eqb-false _ _ (sym (c .before .before .before .before .before .before .before .before .before .before .divides .ensures) ∙ c .before .before .before .before .before .before .before .before .before .if3 .left))
+          (reduction (a .m) (getD (a .row .now) 0 0) (getD (a .line .now) 0 0) (f .result) (n .result) (f .ensures .0)
+          (n .ensures .0))
+          (k .ensures .0) (k .ensures .1),
+      not-used-up,
+    )
 
 returns-4 : tie.Need-returns-4
 returns-4 c =
-    let z = c .before .before .before .before .before in
-    column-zero (z .args .m) (z .args .row .now) (z .args .line .now) (z .pre .0) (z .pre .1) (z .pre .2) (z .pre .3) (omega arith)
+    let z = c .before .before .before .before .before in (
+      column-zero (z .args .m) (z .args .row .now) (z .args .line .now) (z .pre .0) (z .pre .1) (z .pre .2) (z .pre .3) (omega arith),
+      not-used-up,
+    )
 
 pub insert-at-spec : {M : Type 1} → statement M
 insert-at-spec =
@@ -171,14 +186,17 @@ insert-at-spec =
     slice-read-d
     slice-read-v
     insert-first-requires
-    rem-if3
+    same-length
+    same-length-2
+    returns
+    divides-requires
     sub-reduce
     part-reduce-start
     part-reduce-end
     sub-reduce-2
     part-reduce-start-2
     part-reduce-end-2
-    div-reduce
+    quotient-requires
     reduce-requires
     cofactors-requires
     sub-combine-both
@@ -192,9 +210,6 @@ insert-at-spec =
     negate-requires
     combine-both-requires
     slice-write-row
-    same-length
-    same-length-2
-    returns
     same-length-3
     same-length-4
     returns-2

@@ -2,8 +2,9 @@
 use native.Mathlib.Omega.{arith}
 use lib.ListN.{getD}
 use borrow.Author.Needs.{needs}
+use borrow.Author.Tests.{eqb-true}
 use Rattle.equations.proofs.Vectors.{below-at}
-use Rattle.tableau.proofs.Column.{row-head, divisor-positive, column-first}
+use Rattle.tableau.proofs.Column.{row-head, divisor-positive, column-first, first-used-up}
 use Rattle.tableau.proofs.insertion.insert_first.Statement.{statement}
 use Rattle.tableau.proofs.insertion.insert_first.Tie as tie
 
@@ -61,9 +62,14 @@ returns c =
     let f = c .before .before .before .before .before .before .before .before .cofactors in
     let n = c .before .before .before .before .before .negate in
     let k = c .before .before .before .before .multiples in
-    column-first (a .m) (f .result) (n .result) (a .row .now) (a .line .now) (k .last .0) (k .last .1 .0)
-    (z .pre .0 .0) (z .pre .0 .1) (z .pre .0 .2) (z .pre .0 .3) (z .pre .1 .0) (z .pre .1 .1)
-    (below-at (a .m) 0 (a .line .now) (z .pre .0 .3) (omega arith)) (f .ensures .0) (n .ensures .0) (k .ensures .0) (k .ensures .1)
+    let p = row-head (a .m) (a .row .now) (z .pre .0 .0) (z .pre .0 .2) in (
+      column-first (a .m) (f .result) (n .result) (a .row .now) (a .line .now) (k .last .0) (k .last .1 .0)
+          (z .pre .0 .0) (z .pre .0 .1) (z .pre .0 .2) (z .pre .0 .3) (z .pre .1 .0) (z .pre .1 .1)
+          (below-at (a .m) 0 (a .line .now) (z .pre .0 .3) (omega arith)) (f .ensures .0) (n .ensures .0) (k .ensures .0)
+          (k .ensures .1),
+      λ e. first-used-up (a .m) (f .result .divisor) (n .result) (a .line .now) (k .last .1 .0) (omega arith) (omega arith)
+          (eqb-true _ _ e) (n .ensures .0) (k .ensures .1),
+    )
 
 pub insert-first-spec : {M : Type 1} → statement M
 insert-first-spec =

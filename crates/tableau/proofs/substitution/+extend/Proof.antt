@@ -1,18 +1,18 @@
 -- `substitution::extend` meets its contract, by recursion over the rows. The measure is the number of rows.
-use mathlib.Core.Path.{_≡_, ap}
+use mathlib.Core.Path.{sym, subst}
+use native.Mathlib.Nat.{mod-lt}
 use native.Mathlib.Omega.{arith}
-use lib.ListN.{length, getD}
+use lib.ListN.{length}
 use borrow.Author.Needs.{needs}
-use Rattle.residue.specs.Negative.{negative}
 use Rattle.tableau.proofs.Extension.{back-fits, back-pivot, back-requires, back-sum, back-room, back-same}
 use Rattle.tableau.proofs.Extension.{back-below, back-none, back-none-below}
-use Prim.Native.Nat.{ℕ, _+_, _/_, _%_, _<_}
+use Prim.Native.Nat.{ℕ, _+_, _<_}
 use borrow.Fn.Kinds.{In}
 use borrow.Fn.PlainCycle.{Measures, is, falls, and}
 use Rattle.tableau.proofs.substitution.extend.Reads as extend
 use Rattle.tableau.proofs.substitution.extend.Kinds as extend-kinds
 use Rattle.tableau.proofs.substitution.+extend.Lts-extend as extend-lts
-use Rattle.residue.proofs.modular.negate.Reads as negate-reads
+use Rattle.tableau.proofs.substitution.least.Reads as least-reads
 use Rattle.tableau.proofs.products.sum.Reads as sum-reads
 use Rattle.tableau.proofs.substitution.+extend.{statement}
 use Rattle.tableau.proofs.substitution.+extend.Tie.{close}
@@ -31,8 +31,8 @@ extend-add-l : (t : ℕ) → extend-lts.Need-add-l (
   extend.Post,
   sum-reads.Asked,
   sum-reads.Learnt,
-  negate-reads.Asked,
-  negate-reads.Learnt,
+  least-reads.Asked,
+  least-reads.Learnt,
 ) (extend-at t) extend.Post
 extend-add-l t c =
     let z = c .before .before .before in
@@ -44,8 +44,8 @@ extend-mul-extend : (t : ℕ) → extend-lts.Need-mul-extend (
   extend.Post,
   sum-reads.Asked,
   sum-reads.Learnt,
-  negate-reads.Asked,
-  negate-reads.Learnt,
+  least-reads.Asked,
+  least-reads.Learnt,
 ) (extend-at t) extend.Post
 extend-mul-extend t c =
     let z = c .before .before .before in
@@ -57,8 +57,8 @@ extend-sub-extend : (t : ℕ) → extend-lts.Need-sub-extend (
   extend.Post,
   sum-reads.Asked,
   sum-reads.Learnt,
-  negate-reads.Asked,
-  negate-reads.Learnt,
+  least-reads.Asked,
+  least-reads.Learnt,
 ) (extend-at t) extend.Post
 extend-sub-extend t c =
     let z = c .before .before .before in
@@ -70,8 +70,8 @@ extend-part-extend-start : (t : ℕ) → extend-lts.Need-part-extend-start (
   extend.Post,
   sum-reads.Asked,
   sum-reads.Learnt,
-  negate-reads.Asked,
-  negate-reads.Learnt,
+  least-reads.Asked,
+  least-reads.Learnt,
 ) (extend-at t) extend.Post
 extend-part-extend-start t c =
     let z = c .before .before .before in
@@ -83,8 +83,8 @@ extend-part-extend-end : (t : ℕ) → extend-lts.Need-part-extend-end (
   extend.Post,
   sum-reads.Asked,
   sum-reads.Learnt,
-  negate-reads.Asked,
-  negate-reads.Learnt,
+  least-reads.Asked,
+  least-reads.Learnt,
 ) (extend-at t) extend.Post
 extend-part-extend-end t c = search needs
 
@@ -93,8 +93,8 @@ extend-sub-extend-2 : (t : ℕ) → extend-lts.Need-sub-extend-2 (
   extend.Post,
   sum-reads.Asked,
   sum-reads.Learnt,
-  negate-reads.Asked,
-  negate-reads.Learnt,
+  least-reads.Asked,
+  least-reads.Learnt,
 ) (extend-at t) extend.Post
 extend-sub-extend-2 t c = search needs
 
@@ -103,8 +103,8 @@ extend-part-extend-start-2 : (t : ℕ) → extend-lts.Need-part-extend-start-2 (
   extend.Post,
   sum-reads.Asked,
   sum-reads.Learnt,
-  negate-reads.Asked,
-  negate-reads.Learnt,
+  least-reads.Asked,
+  least-reads.Learnt,
 ) (extend-at t) extend.Post
 extend-part-extend-start-2 t c = search needs
 
@@ -113,8 +113,8 @@ extend-part-extend-end-2 : (t : ℕ) → extend-lts.Need-part-extend-end-2 (
   extend.Post,
   sum-reads.Asked,
   sum-reads.Learnt,
-  negate-reads.Asked,
-  negate-reads.Learnt,
+  least-reads.Asked,
+  least-reads.Learnt,
 ) (extend-at t) extend.Post
 extend-part-extend-end-2 t c = search needs
 
@@ -123,8 +123,8 @@ extend-sub-extend-3 : (t : ℕ) → extend-lts.Need-sub-extend-3 (
   extend.Post,
   sum-reads.Asked,
   sum-reads.Learnt,
-  negate-reads.Asked,
-  negate-reads.Learnt,
+  least-reads.Asked,
+  least-reads.Learnt,
 ) (extend-at t) extend.Post
 extend-sub-extend-3 t c = search needs
 
@@ -133,8 +133,8 @@ extend-extend-requires : (t : ℕ) → extend-lts.Need-extend-requires (
   extend.Post,
   sum-reads.Asked,
   sum-reads.Learnt,
-  negate-reads.Asked,
-  negate-reads.Learnt,
+  least-reads.Asked,
+  least-reads.Learnt,
 ) (extend-at t) extend.Post
 extend-extend-requires t c κs =
     let z = c .before .before .before .before .before in
@@ -147,8 +147,8 @@ extend-sub-sum : (t : ℕ) → extend-lts.Need-sub-sum (
   extend.Post,
   sum-reads.Asked,
   sum-reads.Learnt,
-  negate-reads.Asked,
-  negate-reads.Learnt,
+  least-reads.Asked,
+  least-reads.Learnt,
 ) (extend-at t) extend.Post
 extend-sub-sum t c = search needs
 
@@ -157,8 +157,8 @@ extend-part-sum-start : (t : ℕ) → extend-lts.Need-part-sum-start (
   extend.Post,
   sum-reads.Asked,
   sum-reads.Learnt,
-  negate-reads.Asked,
-  negate-reads.Learnt,
+  least-reads.Asked,
+  least-reads.Learnt,
 ) (extend-at t) extend.Post
 extend-part-sum-start t c = search needs
 
@@ -167,8 +167,8 @@ extend-part-sum-end : (t : ℕ) → extend-lts.Need-part-sum-end (
   extend.Post,
   sum-reads.Asked,
   sum-reads.Learnt,
-  negate-reads.Asked,
-  negate-reads.Learnt,
+  least-reads.Asked,
+  least-reads.Learnt,
 ) (extend-at t) extend.Post
 extend-part-sum-end t c =
     let z = c .before .before .before .before .before .before .before .before in
@@ -180,8 +180,8 @@ extend-sub-sum-2 : (t : ℕ) → extend-lts.Need-sub-sum-2 (
   extend.Post,
   sum-reads.Asked,
   sum-reads.Learnt,
-  negate-reads.Asked,
-  negate-reads.Learnt,
+  least-reads.Asked,
+  least-reads.Learnt,
 ) (extend-at t) extend.Post
 extend-sub-sum-2 t c = search needs
 
@@ -190,8 +190,8 @@ extend-part-sum-start-2 : (t : ℕ) → extend-lts.Need-part-sum-start-2 (
   extend.Post,
   sum-reads.Asked,
   sum-reads.Learnt,
-  negate-reads.Asked,
-  negate-reads.Learnt,
+  least-reads.Asked,
+  least-reads.Learnt,
 ) (extend-at t) extend.Post
 extend-part-sum-start-2 t c = search needs
 
@@ -200,8 +200,8 @@ extend-part-sum-end-2 : (t : ℕ) → extend-lts.Need-part-sum-end-2 (
   extend.Post,
   sum-reads.Asked,
   sum-reads.Learnt,
-  negate-reads.Asked,
-  negate-reads.Learnt,
+  least-reads.Asked,
+  least-reads.Learnt,
 ) (extend-at t) extend.Post
 extend-part-sum-end-2 t c = search needs
 
@@ -210,8 +210,8 @@ extend-sum-requires : (t : ℕ) → extend-lts.Need-sum-requires (
   extend.Post,
   sum-reads.Asked,
   sum-reads.Learnt,
-  negate-reads.Asked,
-  negate-reads.Learnt,
+  least-reads.Asked,
+  least-reads.Learnt,
 ) (extend-at t) extend.Post
 extend-sum-requires t c κs =
     let z = c .before .before .before .before .before .before .before .before .before .before .before in
@@ -232,55 +232,36 @@ extend-shared-slice-read-d : (t : ℕ) → extend-lts.Need-shared-slice-read-d (
   extend.Post,
   sum-reads.Asked,
   sum-reads.Learnt,
-  negate-reads.Asked,
-  negate-reads.Learnt,
+  least-reads.Asked,
+  least-reads.Learnt,
 ) (extend-at t) extend.Post
 extend-shared-slice-read-d t c =
     let z = c .before .before .before .before .before .before .before .before .before .before .before .before .before in
     let a = z .args in
     omega (arith, back-fits (a .m) (a .j) (a .k) (a .basis .now) (a .x .now) (omega arith) (z .pre .1 .0 .0) (z .pre .1 .0 .2))
 
-extend-negate-requires : (t : ℕ) → extend-lts.Need-negate-requires (
+extend-least-requires : (t : ℕ) → extend-lts.Need-least-requires (
   extend-below t,
   extend.Post,
   sum-reads.Asked,
   sum-reads.Learnt,
-  negate-reads.Asked,
-  negate-reads.Learnt,
+  least-reads.Asked,
+  least-reads.Learnt,
 ) (extend-at t) extend.Post
-extend-negate-requires t c κs =
+extend-least-requires t c κs =
     let z = c .before .before .before .before .before .before .before .before .before .before .before .before .before in
     let a = z .args in
-    omega (
-      arith,
-      back-pivot (a .m) (a .j) (a .k) (a .basis .now) (a .x .now) (omega arith) (z .pre .1 .0 .0) (z .pre .1 .0 .2)
-          (z .pre .1 .1 .0),
-    )
-
-extend-div-x : (t : ℕ) → extend-lts.Need-div-x (
-  extend-below t,
-  extend.Post,
-  sum-reads.Asked,
-  sum-reads.Learnt,
-  negate-reads.Asked,
-  negate-reads.Learnt,
-) (extend-at t) extend.Post
-extend-div-x t c =
-    let z = c .before .before .before .before .before .before .before .before .before .before .before .before .before .before in
-    let a = z .args in
-    omega (
-      arith,
-      back-pivot (a .m) (a .j) (a .k) (a .basis .now) (a .x .now) (omega arith) (z .pre .1 .0 .0) (z .pre .1 .0 .2)
-          (z .pre .1 .1 .0),
-    )
+    let p = back-pivot (a .m) (a .j) (a .k) (a .basis .now) (a .x .now) (omega arith) (z .pre .1 .0 .0) (z .pre .1 .0 .2)
+    (z .pre .1 .1 .0) in
+    (subst (λ (r : ℕ). r < a .m) (sym (c .before .sum .ensures)) (mod-lt _ (omega arith)), p .0)
 
 extend-slice-write-x : (t : ℕ) → extend-lts.Need-slice-write-x (
   extend-below t,
   extend.Post,
   sum-reads.Asked,
   sum-reads.Learnt,
-  negate-reads.Asked,
-  negate-reads.Learnt,
+  least-reads.Asked,
+  least-reads.Learnt,
 ) (extend-at t) extend.Post
 extend-slice-write-x t c = search needs
 
@@ -289,8 +270,8 @@ extend-same-length : (t : ℕ) → extend-lts.Need-same-length (
   extend.Post,
   sum-reads.Asked,
   sum-reads.Learnt,
-  negate-reads.Asked,
-  negate-reads.Learnt,
+  least-reads.Asked,
+  least-reads.Learnt,
 ) (extend-at t) extend.Post
 extend-same-length t c = search needs
 
@@ -299,16 +280,17 @@ extend-returns : (t : ℕ) → extend-lts.Need-returns (
   extend.Post,
   sum-reads.Asked,
   sum-reads.Learnt,
-  negate-reads.Asked,
-  negate-reads.Learnt,
+  least-reads.Asked,
+  least-reads.Learnt,
 ) (extend-at t) extend.Post
 extend-returns t c =
     let z = c .before .before .before .before .before .before .before .before .before .before .before .before .before .before in
     let a = z .args in
     let o = c .before .before .before .before .before .before .before .before .extend in
-    let v = c .negate .result / getD (a .basis .now) 0 0 in
-    let e : v ≡ negative (a .m) (c .before .before .sum .result) % a .m / getD (a .basis .now) 0 0 =
-    ap (λ (n : ℕ). n / getD (a .basis .now) 0 0) (c .negate .ensures .0) in (
+    let p = back-pivot (a .m) (a .j) (a .k) (a .basis .now) (a .x .now) (omega arith) (z .pre .1 .0 .0) (z .pre .1 .0 .2)
+    (z .pre .1 .1 .0) in
+    let v = c .least .result in
+    let e = c .least .ensures in (
       back-same (a .m) (a .j) (a .k) (a .basis .now) (a .x .now) (omega arith) (z .pre .1 .0 .0) (z .pre .1 .0 .2)
           (o .last .1 .0) (o .kept .1 .0) (c .before .before .sum .result) v (o .ensures .0) (c .before .before .sum .ensures) e,
       back-below (a .m) (a .j) (a .k) (a .basis .now) (a .x .now) (omega arith) (z .pre .1 .0 .0) (z .pre .1 .0 .2)
@@ -320,8 +302,8 @@ extend-returns-2 : (t : ℕ) → extend-lts.Need-returns-2 (
   extend.Post,
   sum-reads.Asked,
   sum-reads.Learnt,
-  negate-reads.Asked,
-  negate-reads.Learnt,
+  least-reads.Asked,
+  least-reads.Learnt,
 ) (extend-at t) extend.Post
 extend-returns-2 t c =
     let z = c .before .before .before in
@@ -336,8 +318,8 @@ pub +extend-spec : {M : Type 1} → statement M
   extend.Post,
   sum-reads.Asked,
   sum-reads.Learnt,
-  negate-reads.Asked,
-  negate-reads.Learnt,
+  least-reads.Asked,
+  least-reads.Learnt,
 )
     (extend-at t)
     extend.Post
@@ -359,8 +341,7 @@ pub +extend-spec : {M : Type 1} → statement M
     (extend-part-sum-end-2 t)
     (extend-sum-requires t)
     (extend-shared-slice-read-d t)
-    (extend-negate-requires t)
-    (extend-div-x t)
+    (extend-least-requires t)
     (extend-slice-write-x t)
     (extend-same-length t)
     (extend-returns t)
