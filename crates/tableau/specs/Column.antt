@@ -14,6 +14,6 @@ pub record Inserted (m : ℕ) (R W R′ W′ : List ℕ) : Type 0 where
   pub kept : RowKept m R′
   pub below : Below m W′
 
--- the line W is 0 behind its first entry, so that no row behind this column changes any more
+-- nothing is left of the line W behind its first entry: put in there, it changes no row
 abbrev pub UsedUp : ℕ → List ℕ → Type 0
 UsedUp m W = (B : List (List ℕ)) → insert m B (drop 1 W) ≡ B
