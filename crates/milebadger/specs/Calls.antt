@@ -1,12 +1,12 @@
 -- What each call of the C face has to say. Definitions only.
 use Prim.Native.Nat.{ℕ, _+_, _/_, _%_}
-use mathlib.Core.Bool.{cond, _&&_}
+use mathlib.Core.Bool.{_&&_}
 use mathlib.Core.List.{List, [], _∷_}
 use lib.Dec.{eqb, leb}
 use lib.ListN.{length}
 use Rattle.residue.specs.Chain.{chainOf}
 use Rattle.residue.specs.Congruence.{congruenceOf}
-use Rattle.residue.specs.Questions.{Question, asks, firstNo}
+use Rattle.residue.specs.Questions.{Question, asks, firstNo, unlessRefused}
 use Rattle.residue.specs.declared.congruence.Solved.{Solved}
 use Rattle.residue.specs.declared.congruence.Solved.the-variants.{Refused, NoSolution, Solutions}
 use Rattle.equations.specs.Lines.{equationsOf}
@@ -46,11 +46,7 @@ solveQuestions m n xs =
 abbrev pub blockReply : List ℕ → Reply
 blockReply block = gives (length block) block
 
--- a question's number where one turns the call away, and else its reply
-abbrev pub unlessRefused : ℕ → Reply → Reply
-unlessRefused number reply = cond (eqb number 0) reply (refuses number)
-
 -- the answer block of the equations in xs, or the refusal
 unfoldable pub solveReply : ℕ → ℕ → List ℕ → Reply
 solveReply m n xs =
-    unlessRefused (firstNo (solveQuestions m n xs)) (blockReply (blockOf m n (equationsOf n xs)))
+    unlessRefused refuses (firstNo (solveQuestions m n xs)) (blockReply (blockOf m n (equationsOf n xs)))

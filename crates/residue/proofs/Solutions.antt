@@ -16,7 +16,7 @@ use Rattle.residue.specs.Divides.{Divides}
 use Rattle.residue.specs.Bezout.{cofactors}
 use Rattle.residue.specs.Gcd.{gcd}
 use Rattle.residue.specs.Promises.{Describes}
-use Rattle.residue.specs.Congruence.{leastOf, solvesOne, solutionsOf}
+use Rattle.residue.specs.Congruence.{leastOf, solvesCongruence, solutionsOf}
 use Rattle.residue.specs.declared.congruence.Solved.the-variants.{NoSolution, Solutions}
 use Rattle.residue.proofs.Bezout.{cofactors-bezout}
 use Rattle.residue.proofs.Congruent.{congruent-of, congruent-of-eq, congruent-refl, congruent-sym, congruent-trans, congruent-mul, congruent-mod, congruent-scale, congruent-unscale, congruent-down}
@@ -64,7 +64,7 @@ module _ (a b m g q p s t k : ℕ) (pos : 0 < m) (left : a ≡ g * q) (right : m
           (rw right at (congruent-trans {a = g * (q * u)} {b = a * u} (congruent-of-eq (rw left (omega arith)))
           (congruent-trans h (congruent-of-eq divided))))
 
-  smaller-fails : (u : ℕ) → u < s * k % p → solvesOne a b m u ≡ false
+  smaller-fails : (u : ℕ) → u < s * k % p → solvesCongruence a b m u ≡ false
   smaller-fails u l =
       ne-eqb (a * u % m) (b % m)
       (λ (e : a * u % m ≡ b % m). absurd (omega (arith, class-of u (record { same = e }) .same, mod-le u p)))
@@ -80,7 +80,7 @@ module _ (a b m g q p s t k : ℕ) (pos : 0 < m) (left : a ≡ g * q) (right : m
   pub least-is : leastOf a b m ≡ s * k % p
   unfolding leastOf
   least-is =
-      first-is (solvesOne a b m) (s * k % p)
+      first-is (solvesCongruence a b m) (s * k % p)
       (eq-eqb _ _ (solution-of (s * k % p) (congruent-mod p (s * k)) .same)) smaller-fails m 0 (omega arith)
       (omega (arith, least-below))
 

@@ -3,13 +3,13 @@ use mathlib.Core.Bool.{Bool, cond}
 use Prim.Native.Nat.{ℕ, zero, suc, _*_, _/_, _%_}
 use lib.Dec.{eqb}
 use Rattle.residue.specs.Gcd.{gcd}
-use Rattle.residue.specs.Questions.{firstNo, congruenceQuestions}
+use Rattle.residue.specs.Questions.{firstNo, unlessRefused, congruenceQuestions}
 use Rattle.residue.specs.declared.congruence.Solved.{Solved}
 use Rattle.residue.specs.declared.congruence.Solved.the-variants.{Refused, NoSolution, Solutions}
 
 -- whether a·t = b mod m
-abbrev pub solvesOne : ℕ → ℕ → ℕ → ℕ → Bool
-solvesOne a b m t = eqb (a * t % m) (b % m)
+abbrev pub solvesCongruence : ℕ → ℕ → ℕ → ℕ → Bool
+solvesCongruence a b m t = eqb (a * t % m) (b % m)
 
 -- the first of the k numbers t, t + 1, .. that the test accepts, and t + k where it accepts none of them
 abbrev pub firstFrom : (ℕ → Bool) → ℕ → ℕ → ℕ
@@ -18,15 +18,12 @@ firstFrom accepts t (suc k) = cond (accepts t) t (firstFrom accepts (suc t) k)
 
 -- "the least t"
 unfoldable pub leastOf : ℕ → ℕ → ℕ → ℕ
-leastOf a b m = firstFrom (solvesOne a b m) 0 m
+leastOf a b m = firstFrom (solvesCongruence a b m) 0 m
 
 -- "with g = gcd(a,m), none exactly when g does not divide b; otherwise the least t, and the spacing m/g"
 unfoldable pub solutionsOf : ℕ → ℕ → ℕ → Solved
 solutionsOf a b m = cond (eqb (b % gcd a m) 0) (Solutions (leastOf a b m) (m / gcd a m)) NoSolution
 
--- a question's number where one turns the congruence away, and else its solutions
-abbrev pub unlessRefused : ℕ → Solved → Solved
-unlessRefused number answer = cond (eqb number 0) answer (Refused number)
-
+-- the number of the question that turns the congruence away, and else its solutions
 unfoldable pub congruenceOf : ℕ → ℕ → ℕ → Solved
-congruenceOf a b m = unlessRefused (firstNo (congruenceQuestions a b m)) (solutionsOf a b m)
+congruenceOf a b m = unlessRefused Refused (firstNo (congruenceQuestions a b m)) (solutionsOf a b m)

@@ -2,7 +2,7 @@
 use mathlib.Core.Bool.{Bool, cond, _&&_}
 use mathlib.Core.List.{List, [], _∷_}
 use Prim.Native.Nat.{ℕ}
-use lib.Dec.{leb, ltb}
+use lib.Dec.{eqb, leb, ltb}
 
 -- a question: its number, and whether the answer is yes
 pub record Question : Type 0 where
@@ -16,6 +16,10 @@ asks k b = record { number = k; yes = b }
 abbrev pub firstNo : List Question → ℕ
 firstNo [] = 0
 firstNo (q ∷ qs) = cond (q .yes) (firstNo qs) (q .number)
+
+-- what a call gives: its answer, or the refusal with the number of the question that turned it away
+abbrev pub unlessRefused : {A : Type 0} → (ℕ → A) → ℕ → A → A
+unlessRefused refuse number answer = cond (eqb number 0) answer (refuse number)
 
 -- "m is 2..65,535"
 abbrev pub largestModulus : ℕ
