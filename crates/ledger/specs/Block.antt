@@ -1,0 +1,19 @@
+-- The answer block in words. Definitions only.
+use mathlib.Core.List.{List, [], _∷_}
+use Prim.Native.Nat.{ℕ, zero, suc}
+use Rattle.equations.specs.Equation.{Equation}
+use Rattle.system.specs.Block.{blockOf}
+use Rattle.words.specs.Words.{word, wordsOf, headKind, entryKind, multiplierKind}
+use Rattle.ledger.specs.Ledger.{Ledger, unopened, opened}
+
+-- the numbers of a block as words: "Answer block: the same form" as a claim; "Without solution: head 0, then
+-- one multiplier per equation."
+abbrev pub blockWords : List ℕ → List ℕ
+blockWords [] = []
+blockWords (zero ∷ ks) = word headKind 0 ∷ wordsOf multiplierKind ks
+blockWords (suc k ∷ xs) = word headKind (suc k) ∷ wordsOf entryKind xs
+
+-- the block that answers the equations in the ledger
+unfoldable pub answerWords : Ledger → List ℕ
+answerWords unopened = []
+answerWords (opened m n es) = blockWords (blockOf m n es)

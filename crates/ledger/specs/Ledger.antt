@@ -1,0 +1,34 @@
+-- The ledger: what a sheet holds, in document 01's terms. Definitions only.
+use mathlib.Core.Bool.{Bool, true, false}
+use mathlib.Core.List.{List, []}
+use Prim.Native.Nat.{ℕ}
+use Rattle.equations.specs.Equation.{Equation}
+
+-- 'The ledger is "unopened", or m, n and a list of equations.'
+pub data Ledger : Type 0 where
+  unopened : Ledger
+  opened : ℕ → ℕ → List Equation → Ledger
+
+-- "its limits, 16 equations and 16 unknowns, belong to it"
+abbrev pub mostEquations : ℕ
+mostEquations = 16
+
+abbrev pub mostUnknowns : ℕ
+mostUnknowns = 16
+
+abbrev pub isOpened : Ledger → Bool
+isOpened unopened = false
+isOpened (opened m n es) = true
+
+-- m, n and the list; of an unopened ledger, which has none of them, nobody asks for more than that it is not opened
+abbrev pub modulusOf : Ledger → ℕ
+modulusOf unopened = 0
+modulusOf (opened m n es) = m
+
+abbrev pub unknownsOf : Ledger → ℕ
+unknownsOf unopened = 0
+unknownsOf (opened m n es) = n
+
+abbrev pub equationsIn : Ledger → List Equation
+equationsIn unopened = []
+equationsIn (opened m n es) = es

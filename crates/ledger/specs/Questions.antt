@@ -1,0 +1,59 @@
+-- The questions of document 01 about a call, asked of the ledger and the call's arguments, in the paper's order.
+-- Definitions only.
+use mathlib.Core.Bool.{Bool, true, false, _&&_}
+use mathlib.Core.List.{List, [], _∷_}
+use Prim.Native.Nat.{ℕ}
+use lib.Dec.{eqb, leb, ltb}
+use lib.ListN.{length}
+use Rattle.residue.specs.Questions.{Question, asks, firstNo, allowedModulus}
+use Rattle.equations.specs.Multipliers.{allBelow}
+use Rattle.words.specs.Words.{numberOf, numbersOf}
+use Rattle.ledger.specs.Ledger.{Ledger, isOpened, modulusOf, unknownsOf, equationsIn, mostEquations, mostUnknowns}
+use Rattle.ledger.specs.Shapes.{numberAt, isOpening, isEquation, isClaim, entriesOf}
+use Rattle.ledger.specs.Block.{answerWords}
+use Rattle.ledger.specs.Calls.{Call, opens, adds, strikes, answers, marks, strikesFromTape, answersFromTape, meaningless}
+
+-- "n 1..16?"
+abbrev pub allowedUnknowns : ℕ → Bool
+allowedUnknowns n = leb 1 n && leb n mostUnknowns
+
+-- "On tape, number 0? 1."
+abbrev pub plain : ℕ → Bool
+plain w = eqb (numberOf w) 0
+
+abbrev pub questions : Ledger → Call → List Question
+-- "Open: two words of kinds 1, 2? 1. m 2..65,535? 2. n 1..16? 3."
+questions l (opens ws) =
+    asks 1 (isOpening ws)
+    ∷ asks 2 (allowedModulus (numberAt ws 0))
+    ∷ asks 3 (allowedUnknowns (numberAt ws 1))
+    ∷ []
+-- "Add: opened? 4. Shape right, length included? 1. Under 16 equations? 5. All numbers below m? 6."
+questions l (adds ws) =
+    asks 4 (isOpened l)
+    ∷ asks 1 (isEquation (unknownsOf l) ws)
+    ∷ asks 5 (ltb (length (equationsIn l)) mostEquations)
+    ∷ asks 6 (allBelow (modulusOf l) (numbersOf ws))
+    ∷ []
+-- "Strike: opened? 4. On tape, number 0? 1. An equation there? 7."
+questions l strikes = asks 4 (isOpened l) ∷ asks 7 (ltb 0 (length (equationsIn l))) ∷ []
+questions l (strikesFromTape w) =
+    asks 4 (isOpened l)
+    ∷ asks 1 (plain w)
+    ∷ asks 7 (ltb 0 (length (equationsIn l)))
+    ∷ []
+-- "Answer: opened? 4. On tape, number 0? 1. Buffer long enough for this block? 8; on tape it always is."
+questions l (answers buffer) = asks 4 (isOpened l) ∷ asks 8 (leb (length (answerWords l)) (length buffer)) ∷ []
+questions l (answersFromTape w) = asks 4 (isOpened l) ∷ asks 1 (plain w) ∷ []
+-- "Mark: opened? 4. Shape right? 1. Entries below m? 6."
+questions l (marks ws) =
+    asks 4 (isOpened l)
+    ∷ asks 1 (isClaim (unknownsOf l) ws)
+    ∷ asks 6 (allBelow (modulusOf l) (entriesOf ws))
+    ∷ []
+-- "A first word of kind 0, 2, 4, 6, 7 or 10..15 is refused with 1, opened or not."
+questions l (meaningless w) = asks 1 false ∷ []
+
+-- the number of the question that turns the call away, or 0 where it is accepted
+unfoldable pub refusalOf : Ledger → Call → ℕ
+refusalOf l c = firstNo (questions l c)

@@ -1,0 +1,55 @@
+-- What each call gives back, and what it leaves of the sheet and of lent memory. But for the sheet's new record, all of it is
+-- said of the ledger that the sheet reads as. Definitions only.
+use mathlib.Core.Bool.{Bool, cond}
+use mathlib.Core.List.{List}
+use Prim.Native.Nat.{ℕ}
+use lib.ListN.{length}
+use Rattle.slices.specs.Over.{over}
+use Rattle.residue.specs.Questions.{unlessRefused}
+use Rattle.equations.specs.Claim.{passes}
+use Rattle.ledger.specs.Ledger.{Ledger, modulusOf, unknownsOf, equationsIn}
+use Rattle.ledger.specs.Shapes.{claimFrom}
+use Rattle.ledger.specs.Block.{answerWords}
+use Rattle.ledger.specs.Calls.{Call, marks}
+use Rattle.ledger.specs.Questions.{refusalOf}
+use Rattle.ledger.specs.History.{enter}
+use Rattle.sheet.specs.declared.Sheet.{Sheet}
+use Rattle.sheet.specs.declared.Turn.{Turn}
+use Rattle.sheet.specs.declared.Entered.{Entered}
+use Rattle.sheet.specs.declared.Entered.the-variants.{Holds}
+use Rattle.sheet.specs.declared.Entered.the-variants.{Refused as Entered·Refused}
+use Rattle.sheet.specs.declared.answering.Answered.{Answered}
+use Rattle.sheet.specs.declared.answering.Answered.the-variants.{Wrote}
+use Rattle.sheet.specs.declared.answering.Answered.the-variants.{Refused as Answered·Refused}
+use Rattle.sheet.specs.declared.marking.Marked.{Marked}
+use Rattle.sheet.specs.declared.marking.Marked.the-variants.{Pass, Fail}
+use Rattle.sheet.specs.declared.marking.Marked.the-variants.{Refused as Marked·Refused}
+use Rattle.sheet.specs.Record.{ledgerOf, recordAfter}
+
+-- Open, add and strike: "the equations then held", or the number of the question that turned the call away.
+unfoldable pub enteredOf : Ledger → Call → Entered
+enteredOf l c = unlessRefused Entered·Refused (refusalOf l c) (Holds (length (equationsIn (enter l c))))
+
+-- The sheet after a call: the new record, or the old one where the call is refused.
+unfoldable pub sheetAfter : Sheet → Call → Sheet
+sheetAfter s c = unlessRefused (λ (k : ℕ). s) (refusalOf (ledgerOf s) c) (recordAfter s c)
+
+-- Open, add and strike: all that they give back.
+unfoldable pub turnOf : Sheet → Call → Turn
+turnOf s c = record { sheet = sheetAfter s c; entered = enteredOf (ledgerOf s) c }
+
+-- Answer: the number of words of the block, or the number of the question that turned it away.
+unfoldable pub answeredOf : Ledger → Call → Answered
+answeredOf l c = unlessRefused Answered·Refused (refusalOf l c) (Wrote (length (answerWords l)))
+
+-- Answer: what a buffer that held `old` holds then. "Buffer words past the block keep their content."
+unfoldable pub bufferAfter : Ledger → Call → List ℕ → List ℕ
+bufferAfter l c old = unlessRefused (λ (k : ℕ). old) (refusalOf l c) (over (answerWords l) old)
+
+-- whether the claim that lies in the words passes, by the ledger's equations
+abbrev pub claimPasses : Ledger → List ℕ → Bool
+claimPasses l ws = passes (modulusOf l) (unknownsOf l) (equationsIn l) (claimFrom (unknownsOf l) ws)
+
+-- Mark: pass or fail, or the number of the question that turned the claim away.
+unfoldable pub markedOf : Ledger → List ℕ → Marked
+markedOf l ws = unlessRefused Marked·Refused (refusalOf l (marks ws)) (cond (claimPasses l ws) Pass Fail)

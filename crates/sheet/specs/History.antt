@@ -1,0 +1,28 @@
+-- The sheet after a list of calls. "The first call gets a fresh sheet, each later one the sheet that the call before
+-- it returned or left, refused or not." Definitions only.
+use mathlib.Core.List.{List, [], _∷_}
+use Rattle.ledger.specs.Calls.{Call, opens, adds, strikes, answers, marks, strikesFromTape, answersFromTape, meaningless}
+use Rattle.sheet.specs.declared.Sheet.{Sheet}
+use Rattle.sheet.specs.Record.{fresh}
+use Rattle.sheet.specs.Calls.{turnOf}
+
+-- The sheet that a call returned or left. Answer and mark take the sheet by value and return none: the caller's sheet is
+-- then the one passed. So it is with a word on tape that picks no call, which calls nothing.
+abbrev pub left : Sheet → Call → Sheet
+left s (opens ws) = turnOf s (opens ws) .sheet
+left s (adds ws) = turnOf s (adds ws) .sheet
+left s strikes = turnOf s strikes .sheet
+left s (strikesFromTape w) = turnOf s (strikesFromTape w) .sheet
+left s (answers buffer) = s
+left s (answersFromTape w) = s
+left s (marks ws) = s
+left s (meaningless w) = s
+
+-- the sheet after more calls
+unfoldable pub sheetFrom : Sheet → List Call → Sheet
+sheetFrom s [] = s
+sheetFrom s (c ∷ calls) = sheetFrom (left s c) calls
+
+-- the sheet after the calls, the first of them on a fresh sheet
+abbrev pub after : List Call → Sheet
+after calls = sheetFrom fresh calls

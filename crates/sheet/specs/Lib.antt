@@ -1,0 +1,6 @@
+-- What each call on a sheet gives back and leaves, in terms of the ledger that the sheet reads as.
+-- Read in this order: Record, Calls, History, Promises.
+pub mod Record
+pub mod Calls
+pub mod History
+pub mod Promises

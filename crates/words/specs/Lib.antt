@@ -1,0 +1,2 @@
+-- Document 01's words.
+pub mod Words

@@ -1,0 +1,61 @@
+-- Document 01's words: a kind and a number in 32 bits. Definitions only.
+use mathlib.Core.Bool.{Bool}
+use mathlib.Core.List.{List, map}
+use Prim.Native.Nat.{ℕ, _+_, _*_, _/_, _%_}
+use Rattle.equations.specs.Vectors.{sameVector}
+
+-- 2 ^ 28: "the low 28" bits are the number
+abbrev pub numbersOfAKind : ℕ
+numbersOfAKind = 268435456
+
+-- "A word has 32 bits: the top 4 are its kind, the low 28 its number."
+abbrev pub kindOf : ℕ → ℕ
+kindOf w = w / numbersOfAKind
+
+abbrev pub numberOf : ℕ → ℕ
+numberOf w = w % numbersOfAKind
+
+-- the word of a kind and a number
+abbrev pub word : ℕ → ℕ → ℕ
+word kind number = kind * numbersOfAKind + number
+
+-- "Kinds: 1 modulus; 2 unknowns; 3 coefficient; 4 right side; 5 head; 6 vector entry; 7 multiplier; 8 strike; 9 answer.
+-- Others have no meaning."
+abbrev pub modulusKind : ℕ
+modulusKind = 1
+
+abbrev pub unknownsKind : ℕ
+unknownsKind = 2
+
+abbrev pub coefficientKind : ℕ
+coefficientKind = 3
+
+abbrev pub rightKind : ℕ
+rightKind = 4
+
+abbrev pub headKind : ℕ
+headKind = 5
+
+abbrev pub entryKind : ℕ
+entryKind = 6
+
+abbrev pub multiplierKind : ℕ
+multiplierKind = 7
+
+abbrev pub strikeKind : ℕ
+strikeKind = 8
+
+abbrev pub answerKind : ℕ
+answerKind = 9
+
+-- the numbers of words
+abbrev pub numbersOf : List ℕ → List ℕ
+numbersOf ws = map numberOf ws
+
+-- words of one kind with these numbers
+abbrev pub wordsOf : ℕ → List ℕ → List ℕ
+wordsOf kind xs = map (word kind) xs
+
+-- whether the words are of exactly these kinds, in this order; so there are as many words as kinds
+unfoldable pub haveKinds : List ℕ → List ℕ → Bool
+haveKinds ws kinds = sameVector (map kindOf ws) kinds

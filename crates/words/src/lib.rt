@@ -1,0 +1,1 @@
+// Words of document 01: reading their kinds and numbers, and making them.
