@@ -1,15 +1,14 @@
 -- What each call gives back, and what it leaves of the sheet and of lent memory. But for the sheet's new record, all of it is
 -- said of the ledger that the sheet reads as. Definitions only.
-use mathlib.Core.Bool.{Bool, cond}
+use mathlib.Core.Bool.{cond}
 use mathlib.Core.List.{List}
 use Prim.Native.Nat.{ℕ}
 use lib.ListN.{length}
 use Rattle.slices.specs.Over.{over}
 use Rattle.residue.specs.Questions.{unlessRefused}
-use Rattle.equations.specs.Claim.{passes}
-use Rattle.ledger.specs.Ledger.{Ledger, modulusOf, unknownsOf, equationsIn}
-use Rattle.ledger.specs.Shapes.{claimFrom}
+use Rattle.ledger.specs.Ledger.{Ledger, equationsIn}
 use Rattle.ledger.specs.Block.{answerWords}
+use Rattle.ledger.specs.Marking.{claimPasses}
 use Rattle.ledger.specs.Calls.{Call, marks}
 use Rattle.ledger.specs.Questions.{refusalOf}
 use Rattle.ledger.specs.History.{enter}
@@ -45,10 +44,6 @@ answeredOf l c = unlessRefused Answered·Refused (refusalOf l c) (Wrote (length 
 -- Answer: what a buffer that held `old` holds then. "Buffer words past the block keep their content."
 unfoldable pub bufferAfter : Ledger → Call → List ℕ → List ℕ
 bufferAfter l c old = unlessRefused (λ (k : ℕ). old) (refusalOf l c) (over (answerWords l) old)
-
--- whether the claim that lies in the words passes, by the ledger's equations
-abbrev pub claimPasses : Ledger → List ℕ → Bool
-claimPasses l ws = passes (modulusOf l) (unknownsOf l) (equationsIn l) (claimFrom (unknownsOf l) ws)
 
 -- Mark: pass or fail, or the number of the question that turned the claim away.
 unfoldable pub markedOf : Ledger → List ℕ → Marked

@@ -23,6 +23,7 @@ use Rattle.words.specs.Words.{word, wordsOf, headKind, entryKind, multiplierKin
 use Rattle.ledger.specs.Ledger.{Ledger, opened, equationsIn}
 use Rattle.ledger.specs.Shapes.{isClaim, entriesOf, claimFrom}
 use Rattle.ledger.specs.Block.{answerWords}
+use Rattle.ledger.specs.Marking.{claimPasses}
 use Rattle.ledger.specs.Calls.{Call, opens, answers, marks, answersFromTape}
 use Rattle.ledger.specs.Questions.{plain, refusalOf}
 use Rattle.ledger.specs.History.{enter, ledger}
@@ -35,7 +36,7 @@ use Rattle.sheet.specs.declared.marking.Marked.{Marked}
 use Rattle.sheet.specs.declared.marking.Marked.the-variants.{Pass, Fail}
 use Rattle.sheet.specs.declared.marking.Marked.the-variants.{Refused as Marked·Refused}
 use Rattle.sheet.specs.Record.{ledgerOf}
-use Rattle.sheet.specs.Calls.{turnOf, answeredOf, bufferAfter, claimPasses, markedOf}
+use Rattle.sheet.specs.Calls.{turnOf, answeredOf, bufferAfter, markedOf}
 use Rattle.sheet.specs.History.{left, after}
 
 -- "refused calls anywhere in it and at least one opening accepted": by the questions, asked of the ledger at that place

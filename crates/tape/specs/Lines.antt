@@ -1,0 +1,75 @@
+-- The lines that a tape prints: document 01's meaning of a tape, from its bytes to the bytes of its lines. Definitions only.
+use mathlib.Core.Bool.{cond}
+use mathlib.Core.List.{List, [], _∷_, _++_}
+use Prim.Native.Nat.{ℕ, zero, suc, _%_}
+use lib.Dec.{eqb, leb}
+use lib.ListN.{length, take, drop}
+use Rattle.residue.specs.Questions.{unlessRefused}
+use Rattle.system.specs.Block.{blockOf}
+use Rattle.system.specs.Claims.{vectorsWithin}
+use Rattle.ledger.specs.Ledger.{Ledger, unopened, modulusOf, unknownsOf, equationsIn}
+use Rattle.ledger.specs.Shapes.{numberAt}
+use Rattle.ledger.specs.Marking.{claimPasses}
+use Rattle.ledger.specs.Calls.{Call, opens, adds, strikes, answers, marks, strikesFromTape, answersFromTape, meaningless}
+use Rattle.ledger.specs.Questions.{refusalOf}
+use Rattle.ledger.specs.History.{enter}
+use Rattle.tape.specs.Bytes.{wordsIn}
+use Rattle.tape.specs.Text.{line}
+use Rattle.tape.specs.Calls.{callsOn}
+
+-- "refused r"
+abbrev pub refusedLine : ℕ → List ℕ
+refusedLine r = line "refused" (r ∷ [])
+
+abbrev pub stepLines : List (List ℕ) → List ℕ
+stepLines [] = []
+stepLines (s ∷ ss) = line "step" s ++ stepLines ss
+
+-- the lines of an answer block: "An answer is `from` and the n entries, then a `step` line with n entries for each
+-- step; or `none` and the multipliers."
+abbrev pub blockLines : ℕ → List ℕ → List ℕ
+blockLines n [] = []
+blockLines n (zero ∷ ks) = line "none" ks
+blockLines n (suc k ∷ xs) = line "from" (take n xs) ++ stepLines (vectorsWithin k n (drop n xs))
+
+abbrev pub answerLines : Ledger → List ℕ
+answerLines l = blockLines (unknownsOf l) (blockOf (modulusOf l) (unknownsOf l) (equationsIn l))
+
+-- "with the equations then held"
+abbrev pub heldAfter : Ledger → Call → List ℕ
+heldAfter l c = length (equationsIn (enter l c)) ∷ []
+
+-- the lines of an accepted call, where the ledger before it is l
+abbrev pub acceptedLines : Ledger → Call → List ℕ
+acceptedLines l (opens ws) = line "open" (numberAt ws 0 ∷ numberAt ws 1 ∷ [])
+acceptedLines l (adds ws) = line "added" (heldAfter l (adds ws))
+acceptedLines l strikes = line "struck" (heldAfter l strikes)
+acceptedLines l (strikesFromTape w) = line "struck" (heldAfter l (strikesFromTape w))
+acceptedLines l (answers buffer) = answerLines l
+acceptedLines l (answersFromTape w) = answerLines l
+acceptedLines l (marks ws) = cond (claimPasses l ws) (line "pass" []) (line "fail" [])
+-- it is never accepted
+acceptedLines l (meaningless w) = []
+
+-- "Each call gives a line": its own, or that of its refusal
+unfoldable pub callLines : Ledger → Call → List ℕ
+callLines l c = unlessRefused refusedLine (refusalOf l c) (acceptedLines l c)
+
+-- the lines of more calls
+unfoldable pub linesFrom : Ledger → List Call → List ℕ
+linesFrom l [] = []
+linesFrom l (c ∷ calls) = callLines l c ++ linesFrom (enter l c) calls
+
+-- "Whole words? 9, after the last call; it turns away the 1 to 3 left-over bytes only"
+abbrev pub leftOverLine : List ℕ → List ℕ
+leftOverLine bytes = cond (eqb (length bytes % 4) 0) [] (refusedLine 9)
+
+-- "at most 65,536 bytes?"
+abbrev pub mostBytes : ℕ
+mostBytes = 65536
+
+-- The lines that a tape prints. "Printer and C call begin on a fresh sheet"; "An empty tape prints nothing."
+unfoldable pub lines : List ℕ → List ℕ
+lines bytes =
+    cond (leb (length bytes) mostBytes)
+    (linesFrom unopened (callsOn unopened (wordsIn bytes)) ++ leftOverLine bytes) (refusedLine 10)
