@@ -1,8 +1,8 @@
 // The questions that milebadger_solve asks of its arguments.
 ghost use mathlib.Core.Path.{_≡_};
 ghost use Rattle.residue.specs.Questions.{firstNo};
-ghost use Rattle.equations.specs.Multipliers.{allBelow};
 ghost use Rattle.milebadger.specs.Calls.{solveQuestions};
+use system::residues::all_below;
 
 // The number of the question that turns the system away, or 0 where none does. No u32 is too large a modulus.
 pub(crate) fn refusal(m: u32, n: u32, lines: &[u32]) -> u32
@@ -28,17 +28,4 @@ pub(crate) fn refusal(m: u32, n: u32, lines: &[u32]) -> u32
         return 6;
     }
     0
-}
-
-fn all_below(m: u32, numbers: &[u32]) -> bool
-    ensures { λ r. ⌜ r ≡ allBelow m (now (numbers .entry)) ⌝ }
-{
-    let mut i: usize = 0;
-    while i < numbers.len() {
-        if numbers[i] >= m {
-            return false;
-        }
-        i += 1;
-    }
-    true
 }

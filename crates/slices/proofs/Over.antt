@@ -1,17 +1,31 @@
 -- What is written to the front of a lent list.
+--   over-on      one number more is written
+--   over-end     and all are
 --   over-front   it is what the front holds
 --   over-then    two lists, the second into the part behind the first
 --   head-then    a head stored, and a list into the part behind it
 use mathlib.Core.Path.{_≡_, refl, sym, ap, _∙_}
 use mathlib.Core.List.{List, [], _∷_, _++_, append-assoc}
-use Prim.Native.Nat.{ℕ, _<_}
+use Prim.Native.Nat.{ℕ, suc, _+_, _<_}
+use native.Mathlib.Numerals.{add-one}
 use native.Mathlib.Omega.{arith}
-use lib.ListN.{length, take, drop, set, length-append}
-use lib.Seq.{take-at, drop-drop}
+use lib.ListN.{length, take, drop, getD, set, length-append}
+use lib.Seq.{take-length, take-suc, drop-cons, set-at, append-snoc, length-take-le, take-at, drop-drop}
 use Rattle.slices.specs.Over.{over}
 use Rattle.slices.proofs.Parts.{lent, putBack, lent-behind, put-behind}
 
 module _ {A : Type 0} where
+  pub over-on : (i : ℕ) (xs old : List A) (z : A) → i < length xs → i < length old
+      → set (take i xs ++ drop i old) i (getD xs i z) ≡ take (i + 1) xs ++ drop (i + 1) old
+  over-on i xs old z h g =
+      rw (add-one, drop-cons old i z, take-suc xs i z)
+      (set-at (take i xs) (getD old i z) (drop (suc i) old) (getD xs i z) i (length-take-le i xs (omega arith))
+      ∙ sym (append-snoc (take i xs) (getD xs i z) (drop (suc i) old)))
+
+  pub over-end : (i : ℕ) (xs old : List A) → i ≡ length xs → take i xs ++ drop i old ≡ over xs old
+  over-end i xs old h =
+      ap (λ (k : ℕ). take k xs ++ drop k old) h ∙ ap (λ (z : List A). z ++ drop (length xs) old) (take-length xs)
+
   pub over-front : (n : ℕ) (xs old : List A) {new : List A} → new ≡ over xs old → length xs ≡ n → take n new ≡ xs
   over-front n xs old is h = ap (take n) is ∙ take-at xs (drop (length xs) old) n h
 

@@ -2,6 +2,7 @@
 mod checking;
 pub mod marking;
 mod reading;
+pub mod residues;
 mod runs;
 pub mod solving;
 mod spanning;

@@ -1,13 +1,12 @@
 -- `copying::copy` meets its contract. The invariant: the first i numbers are copied, those behind them as they were. The
 -- measure is what is left.
-use mathlib.Core.Path.{_≡_, refl, sym, ap, _∙_}
+use mathlib.Core.Path.{_≡_, refl, ap, _∙_}
 use mathlib.Core.List.{List, _++_}
-use Prim.Native.Nat.{ℕ, suc, _+_, _-_, _<_, _≤_}
-use native.Mathlib.Numerals.{add-one}
+use Prim.Native.Nat.{ℕ, _-_, _≤_}
 use native.Mathlib.Omega.{arith}
 use lib.ListN.{length, take, drop, getD, set, length-set}
-use lib.Seq.{take-length, take-suc, drop-cons, set-at, append-snoc, length-take-le}
 use borrow.Author.Needs.{needs}
+use Rattle.slices.proofs.Over.{over-on, over-end}
 use Rattle.slices.proofs.copying.copy.Statement.{statement}
 use Rattle.slices.proofs.copying.copy.Tie as tie
 
@@ -16,13 +15,6 @@ Inv-loop from to₀ i₀ to i = (i ≤ length from) × (length to ≡ length to�
 
 abbrev μ-loop : tie.MeasureT-loop
 μ-loop from to₀ i₀ to i = length from - i
-
-copy-more : (i : ℕ) (from d : List ℕ) → i < length from → i < length d
-    → set (take i from ++ drop i d) i (getD from i 0) ≡ take (i + 1) from ++ drop (i + 1) d
-copy-more i from d h g =
-    rw (add-one, drop-cons d i 0, take-suc from i 0)
-    (set-at (take i from) (getD d i 0) (drop (suc i) d) (getD from i 0) i (length-take-le i from (omega arith))
-    ∙ sym (append-snoc (take i from) (getD from i 0) (drop (suc i) d)))
 
 loop-holds : tie.Need-loop-holds Inv-loop μ-loop
 loop-holds c = (search needs, search needs, refl)
@@ -52,7 +44,7 @@ loop-again c =
       omega arith,
       simp length-set (omega arith),
       ap (λ (z : List ℕ). set z (l .i) (getD (a .from .now) (l .i) 0)) (l .inv .2)
-          ∙ copy-more (l .i) (a .from .now) (a .to .now) (omega arith) (omega arith),
+          ∙ over-on (l .i) (a .from .now) (a .to .now) 0 (omega arith) (omega arith),
     )
 
 same-length : tie.Need-same-length Inv-loop μ-loop
@@ -62,9 +54,7 @@ returns : tie.Need-returns Inv-loop μ-loop
 returns c =
     let l = c .before .loop in
     let a = c .before .before .args in
-    let e : l .i ≡ length (a .from .now) = omega arith in
-    l .inv .2 ∙ ap (λ (k : ℕ). take k (a .from .now) ++ drop k (a .to .now)) e
-    ∙ ap (λ (z : List ℕ). z ++ drop (length (a .from .now)) (a .to .now)) (take-length (a .from .now))
+    l .inv .2 ∙ over-end (l .i) (a .from .now) (a .to .now) (omega arith)
 
 pub copy-spec : {M : Type 1} → statement M
 copy-spec =

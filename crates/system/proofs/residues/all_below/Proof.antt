@@ -1,5 +1,5 @@
--- `all_below` meets its contract. The invariant: the first i numbers are below m, so that all are if those behind them are.
--- The measure is what is left.
+-- `residues::all_below` meets its contract. The invariant: the first i numbers are below m, so that all are if those behind
+-- them are. The measure is what is left.
 use mathlib.Core.Path.{_≡_, refl, sym, _∙_}
 use Prim.Native.Nat.{_≤_, _-_}
 use native.Mathlib.Omega.{arith}
@@ -9,8 +9,8 @@ use lib.ListN.{length, drop}
 use lib.Seq.{drop-length}
 use Rattle.equations.specs.Multipliers.{allBelow}
 use Rattle.equations.proofs.Vectors.{all-below-on, all-below-stop}
-use Rattle.milebadger.proofs.asking.all_below.Statement.{statement}
-use Rattle.milebadger.proofs.asking.all_below.Tie as tie
+use Rattle.system.proofs.residues.all_below.Statement.{statement}
+use Rattle.system.proofs.residues.all_below.Tie as tie
 
 abbrev Inv-loop : tie.InvT-loop
 Inv-loop m numbers i₀ i = (i ≤ length numbers) × (allBelow m numbers ≡ allBelow m (drop i numbers))
