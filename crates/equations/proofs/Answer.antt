@@ -4,13 +4,14 @@
 --   combination-start     a combination from c is c plus the combination from the zeros
 --   start-solves          the starting vector is a solution
 --   start-none            there is no start exactly when nothing solves
+--   Found, start-found    there is a start, or there is none
 --   answer-sound          start plus any combination of the steps is a solution
 --   answer-written        a solution is one, within the ranges
 --   answer-complete, answer-unique   demand 2
-use mathlib.Core.Path.{_≡_, ap, _∙_, sym, subst}
-use mathlib.Core.Logic.{_↔_}
+use mathlib.Core.Path.{_≡_, refl, ap, _∙_, sym, subst}
+use mathlib.Core.Logic.{_↔_, _⊎_, inl, inr}
 use mathlib.Core.List.{List, [], _∷_}
-use mathlib.Core.Option.{none, some}
+use mathlib.Core.Option.{Option, none, some}
 use Prim.Native.Nat.{ℕ, _<_}
 use lib.Dec.{T}
 use Rattle.residue.specs.Negative.{negative}
@@ -53,6 +54,16 @@ pub start-none : (m n : ℕ) (es : List Equation)
 unfolding startOf
 start-none m n es =
     (none-means-none m n (solves m es), λ f. first-none m n (solves m es) (λ v vec. false-of (solves m es v) (f v vec)))
+
+abbrev pub Found : ℕ → ℕ → List Equation → Type 0
+Found m n es = (startOf m n es ≡ none) ⊎ ((c : List ℕ) × (startOf m n es ≡ some c))
+
+pub start-found : (m n : ℕ) (es : List Equation) → Found m n es
+start-found m n es = go (startOf m n es) refl
+  where
+    go : (o : Option (List ℕ)) → startOf m n es ≡ o → Found m n es
+    go none h = inl h
+    go (some c) h = inr (c, h)
 
 -- c is a solution; the steps are those of the solutions with right sides 0
 module _ (m n : ℕ) (es : List Equation) (pos : 0 < m) (c : List ℕ) (start : Vector m n c)

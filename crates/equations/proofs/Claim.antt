@@ -2,6 +2,7 @@
 --   describes-nothing   "0 claims no solution and describes no vector"
 --   describes-exists    a vector is described: it is the start plus a combination of the steps, for some coefficients
 --   passes-all          a claim passes: of each vector of n residues, it is described if and only if it solves
+--   passes-described    a claim that describes only vectors of n residues passes: those are the solutions
 use mathlib.Core.Path.{_≡_}
 use mathlib.Core.Logic.{_↔_}
 use mathlib.Core.List.{List}
@@ -46,4 +47,14 @@ passes-all m n es claim = (
       (every-vector m n (λ v. Bool·beq (describes m claim v) (solves m es v)) t v vec)),
   λ f. every-of m n (λ v. Bool·beq (describes m claim v) (solves m es v))
       (λ v vec. same-outcome (describes m claim v) (solves m es v) .1 (f v vec)),
+)
+
+pub passes-described : (m n : ℕ) (es : List Equation) (claim : Claim)
+    → ((v : List ℕ) → T (describes m claim v) → Vector m n v)
+    → T (passes m n es claim) ↔ ((v : List ℕ) → T (describes m claim v) ↔ (Vector m n v × T (solves m es v)))
+passes-described m n es claim vector = (
+  (λ t v.
+      let same = passes-all m n es claim .0 t v in
+      ((λ d. (vector v d, same (vector v d) .0 d)), λ s. same (s .0) .1 (s .1))),
+  λ f. passes-all m n es claim .1 (λ v vec. ((λ d. f v .0 d .1), λ s. f v .1 (vec, s))),
 )

@@ -2,12 +2,14 @@
 pub mod Truth
 pub mod Dot
 pub mod Vectors
+pub mod Lines
 pub mod First
 pub mod Search
 pub mod Lists
 pub mod Solving
 pub mod Claim
 pub mod Combine
+pub mod Listed
 pub mod Closed
 pub mod Steps
 pub mod Ranges

@@ -5,13 +5,15 @@
 --   below-combine                  a combination mod m has entries below m
 --   below-zeros                    zeros are below m
 --   below-at, below-take, below-drop   an entry, the front and the rest of a list of residues
+--   below-append                   residues behind residues
+--   below-mono                     what is below m is below a larger number
 --   all-below                      `allBelow` is the test of that
 --   all-below-on, all-below-stop   one number more is looked at: it is below m, or it is not
 --   before-asym, before-irrefl     the order is strict
 --   nothing-before-zeros           and begins with the zeros
 use mathlib.Core.Path.{_≡_, refl, sym, ap, _∙_}
 use mathlib.Core.Logic.{inl, inr, _↔_}
-use mathlib.Core.List.{List, [], _∷_}
+use mathlib.Core.List.{List, [], _∷_, _++_}
 use mathlib.Core.Bool.{false}
 use Prim.Native.Nat.{ℕ, zero, suc, _+_, _≤_, _<_}
 use native.Mathlib.Nat.{suc-inj, mod-lt}
@@ -65,6 +67,14 @@ pub below-drop : (m i : ℕ) (v : List ℕ) → Below m v → Below m (drop i v)
 below-drop m zero v h = h
 below-drop m (suc i) [] h = tt
 below-drop m (suc i) (x ∷ v) h = below-drop m i v (h .1)
+
+pub below-append : (m : ℕ) (v w : List ℕ) → Below m v → Below m w → Below m (v ++ w)
+below-append m [] w a b = b
+below-append m (x ∷ v) w a b = (a .0, below-append m v w (a .1) b)
+
+pub below-mono : (m k : ℕ) (v : List ℕ) → m ≤ k → Below m v → Below k v
+below-mono m k [] h b = tt
+below-mono m k (x ∷ v) h b = (omega (arith, b .0), below-mono m k v h (b .1))
 
 pub below-zeros : (m j : ℕ) → 0 < m → Below m (replicate j 0)
 below-zeros m zero pos = tt

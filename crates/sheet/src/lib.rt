@@ -1,7 +1,12 @@
 // A sheet of equations: opened with a modulus and a number of unknowns, then filled and emptied one equation at a time,
 // answered and marked. Every call takes any sheet, any words and any buffer.
+pub mod adding;
 pub mod answering;
+mod asking;
 pub mod marking;
+pub mod opening;
+mod shapes;
+pub mod striking;
 
 ghost use mathlib.Core.Path.{_≡_};
 ghost use Rattle.sheet.specs.Record.{fresh};
@@ -41,6 +46,16 @@ impl Sheet {
             unknowns: 0,
             held: 0,
             cells: [0u32; 272],
+        }
+    }
+
+    // A refused call keeps the sheet.
+    pub(crate) fn refused(self, number: u32) -> Turn
+        ensures { λ r. ⌜ r ≡ record { sheet = self; entered = Entered.Refused number } ⌝ }
+    {
+        Turn {
+            sheet: self,
+            entered: Entered::Refused(number),
         }
     }
 }

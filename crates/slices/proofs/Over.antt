@@ -3,6 +3,7 @@
 --   over-end     and all are
 --   over-front   it is what the front holds
 --   over-then    two lists, the second into the part behind the first
+--   over-behind  the same, where it is known by an equation what the first left
 --   head-then    a head stored, and a list into the part behind it
 use mathlib.Core.Path.{_≡_, refl, sym, ap, _∙_}
 use mathlib.Core.List.{List, [], _∷_, _++_, append-assoc}
@@ -41,6 +42,10 @@ module _ {A : Type 0} where
       put-behind (length xs) xs (drop (length xs) old) part refl
       ∙ ap (λ (z : List A). xs ++ z) (is ∙ ap (over ys) (lent-behind (length xs) xs (drop (length xs) old) refl))
       ∙ over-over xs ys old
+
+  pub over-behind : (l : ℕ) (xs ys old : List A) {whole part : List A} → length xs ≡ l → whole ≡ over xs old
+      → part ≡ over ys (lent l whole) → putBack l whole part ≡ over (xs ++ ys) old
+  over-behind l xs ys old h g is = rw (← h, g) (over-then xs ys old (is ∙ rw (← h, g)))
 
   pub head-then : (x : A) (xs old : List A) {part : List A} → 0 < length old → part ≡ over xs (lent 1 (set old 0 x))
       → putBack 1 (set old 0 x) part ≡ over (x ∷ xs) old

@@ -16,7 +16,7 @@ use Rattle.equations.specs.Lists.{every}
 use Rattle.equations.specs.Equation.{Equation, dot, solves, homogeneous}
 use Rattle.equations.specs.Lines.{equationAt, equationsOf}
 use Rattle.system.specs.Claims.{vectorsOf}
-use Rattle.tableau.proofs.Lines.{equations-none, equations-more}
+use Rattle.equations.proofs.Lines.{equations-none, equations-more}
 use Rattle.system.proofs.Chunks.{vectors-cons, vectors-none}
 
 abbrev pub Solves : ℕ → ℕ → Bool → List ℕ → List ℕ → Bool

@@ -1,14 +1,19 @@
 -- Vectors that lie in one list of numbers.
 --   vectors-cons, vectors-none   a first vector, and too few numbers for one
 --   vectors-long                 each vector has n entries
-use mathlib.Core.Path.{_≡_, ap}
-use mathlib.Core.List.{List, [], _∷_}
+--   vectors-listed               of residues, each is a vector of residues
+--   within-flatten, vectors-flatten   vectors that lie one behind the other are found again
+use mathlib.Core.Path.{_≡_, refl, ap, ap₂, _∙_}
+use mathlib.Core.List.{List, [], _∷_, flatten}
 use Prim.Native.Nat.{ℕ, zero, suc, _*_, _/_, _<_, _≤_}
-use native.Mathlib.Nat.{div-eq-of-lt, div-mul-le-self}
+use native.Mathlib.Nat.{div-eq-of-lt, div-eq-of-eq-mul-left, div-mul-le-self}
 use native.Mathlib.Omega.{arith}
 use lib.ListN.{length, take, drop, length-drop}
-use lib.Seq.{length-take-le}
+use lib.Seq.{length-take-le, take-at, drop-at}
 use Rattle.slices.proofs.Parts.{parts-suc}
+use Rattle.equations.specs.Vectors.{Below}
+use Rattle.equations.proofs.Vectors.{vector-length, vector-of, below-take, below-drop}
+use Rattle.equations.proofs.Listed.{AllVectors, flat-length}
 use Rattle.elimination.proofs.Basis.{Long}
 use Rattle.system.specs.Claims.{vectorsWithin, vectorsOf}
 
@@ -28,3 +33,28 @@ long-within (suc c) n s h =
 pub vectors-long : (n : ℕ) (s : List ℕ) → Long n (vectorsOf n s)
 unfolding vectorsOf
 vectors-long n s = long-within (length s / n) n s (div-mul-le-self (length s) n)
+
+listed-within : (m c n : ℕ) (s : List ℕ) → c * n ≤ length s → Below m s → AllVectors m n (vectorsWithin c n s)
+listed-within m zero n s h b = tt
+listed-within m (suc c) n s h b = (
+  vector-of m n (take n s) (length-take-le n s (omega arith)) (below-take m n s b),
+  listed-within m c n (drop n s) (omega (arith, length-drop n s)) (below-drop m n s b),
+)
+
+pub vectors-listed : (m n : ℕ) (s : List ℕ) → Below m s → AllVectors m n (vectorsOf n s)
+unfolding vectorsOf
+vectors-listed m n s = listed-within m (length s / n) n s (div-mul-le-self (length s) n)
+
+pub within-flatten : (m n : ℕ) (vs : List (List ℕ)) → AllVectors m n vs → vectorsWithin (length vs) n (flatten vs) ≡ vs
+unfolding flatten
+within-flatten m n [] h = refl
+within-flatten m n (v ∷ vs) h =
+    let long = vector-length m n v (h .0) in
+    ap₂ (λ (w : List ℕ) (ws : List (List ℕ)). w ∷ ws) (take-at v (flatten vs) n long)
+    (ap (vectorsWithin (length vs) n) (drop-at v (flatten vs) n long) ∙ within-flatten m n vs (h .1))
+
+pub vectors-flatten : (m n : ℕ) (vs : List (List ℕ)) → 0 < n → AllVectors m n vs → vectorsOf n (flatten vs) ≡ vs
+unfolding vectorsOf
+vectors-flatten m n vs pos h =
+    ap (λ (c : ℕ). vectorsWithin c n (flatten vs)) (div-eq-of-eq-mul-left pos (flat-length m n vs h))
+    ∙ within-flatten m n vs h

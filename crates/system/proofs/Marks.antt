@@ -27,7 +27,7 @@ use Rattle.elimination.proofs.Marking.{marking, marking-none}
 use Rattle.equations.specs.Lines.{equationsOf}
 use Rattle.system.specs.Posed.{Posed}
 use Rattle.system.specs.Claims.{Claimed, claimOf, vectorsOf}
-use Rattle.system.proofs.Lines.{equations-shaped}
+use Rattle.equations.proofs.Lines.{equations-shaped}
 use Rattle.system.proofs.Chunks.{vectors-long}
 
 pub claim-front : (m n : ℕ) (claim : List ℕ) → Claimed m n claim → (length claim ≡ 0 → ⊥) → n ≤ length claim

@@ -1,52 +1,26 @@
 -- The promise of specs/Promises.antt is kept: what a block shows is the answer of the definitions, which keep demand 2.
 --   answered
-use mathlib.Core.Path.{_≡_, refl, ap, ap₂, _∙_}
-use mathlib.Core.List.{List, [], _∷_, _++_, flatten, head-eq-of-cons-eq, tail-eq-of-cons-eq}
+use mathlib.Core.Path.{_≡_, refl, ap₂, _∙_}
+use mathlib.Core.List.{List, _∷_, _++_, flatten, head-eq-of-cons-eq, tail-eq-of-cons-eq}
 use mathlib.Core.Option.{Option, none, some}
-use Prim.Native.Nat.{ℕ, zero, suc, _-_, _<_}
+use Prim.Native.Nat.{ℕ, suc, _-_, _<_}
 use native.Mathlib.Omega.{arith}
 use lib.ListN.{length}
 use lib.Seq.{take-at, drop-at}
 use Rattle.equations.specs.Equation.{Equation, Shaped}
-use Rattle.equations.specs.Answer.{startOf, stepAt, andThen, stepsFrom, stepsOf}
+use Rattle.equations.specs.Answer.{startOf, stepsOf}
 use Rattle.equations.proofs.Vectors.{vector-length}
-use Rattle.equations.proofs.Search.{first-holds}
+use Rattle.equations.proofs.Listed.{steps-vectors}
 use Rattle.equations.proofs.Answer.{start-solves}
 use Rattle.equations.proofs.Promises.{complete, unique, counted, no-start}
 use Rattle.elimination.specs.Multipliers.{multipliersOf}
-use Rattle.elimination.proofs.Basis.{Long}
 use Rattle.elimination.proofs.Multipliers.{multipliers-refute}
 use Rattle.equations.specs.Lines.{equationsOf}
 use Rattle.system.specs.Block.{blockWith, blockOf}
 use Rattle.system.specs.Claims.{vectorsWithin}
 use Rattle.system.specs.Promises.{shownStart, shownSteps, Answers, Answered}
-use Rattle.system.proofs.Lines.{equations-shaped}
-
--- vectors of n entries that lie one behind the other are found again
-within-flatten : (n : ℕ) (vs : List (List ℕ)) → Long n vs → vectorsWithin (length vs) n (flatten vs) ≡ vs
-unfolding flatten
-within-flatten n [] l = refl
-within-flatten n (v ∷ vs) l =
-    ap₂ (λ (w : List ℕ) (ws : List (List ℕ)). w ∷ ws) (take-at v (flatten vs) n (l .0))
-    (ap (vectorsWithin (length vs) n) (drop-at v (flatten vs) n (l .0)) ∙ within-flatten n vs (l .1))
-
-step-long : (m n j : ℕ) (es : List Equation) (s : List ℕ) → stepAt m n es j ≡ some s → length s ≡ n
-unfolding stepAt
-step-long m n j es s h = vector-length m n s (first-holds m n _ s h .0)
-
-then-long : (n : ℕ) (o : Option (List ℕ)) (ss : List (List ℕ)) → ((s : List ℕ) → o ≡ some s → length s ≡ n) → Long n ss
-    → Long n (andThen o ss)
-then-long n none ss h l = l
-then-long n (some s) ss h l = (h s refl, l)
-
-long-from : (m n : ℕ) (es : List Equation) (k j : ℕ) → Long n (stepsFrom m n es j k)
-long-from m n es zero j = tt
-long-from m n es (suc k) j =
-    then-long n (stepAt m n es j) (stepsFrom m n es (suc j) k) (step-long m n j es) (long-from m n es k (suc j))
-
-steps-long : (m n : ℕ) (es : List Equation) → Long n (stepsOf m n es)
-unfolding stepsOf
-steps-long m n es = long-from m n es n 0
+use Rattle.equations.proofs.Lines.{equations-shaped}
+use Rattle.system.proofs.Chunks.{within-flatten}
 
 module _ (m n : ℕ) (es : List Equation) (pos : 0 < m) (shaped : Shaped n es) where
   solved : (c : List ℕ) → startOf m n es ≡ some c
@@ -72,7 +46,7 @@ module _ (m n : ℕ) (es : List Equation) (pos : 0 < m) (shaped : Shaped n es) w
       steps-are =
           let k : suc (length (stepsOf m n es)) - 1 ≡ length (stepsOf m n es) = omega arith in
           ap₂ (λ (j : ℕ) (s : List ℕ). vectorsWithin j n s) k (drop-at c (flatten (stepsOf m n es)) n long)
-          ∙ within-flatten n (stepsOf m n es) (steps-long m n es)
+          ∙ within-flatten m n (stepsOf m n es) (steps-vectors m n es)
 
   refuted : startOf m n es ≡ none → Answers m n es 0 (multipliersOf m n es)
   refuted h = record {

@@ -16,7 +16,8 @@ use Rattle.elimination.specs.Tableau.{unit, line, lines, tableau}
 use Rattle.tableau.specs.Packed.{rows, triangle, Kept}
 use Rattle.equations.specs.Lines.{equationAt, equationsOf}
 use Rattle.equations.proofs.Vectors.{below-zeros}
-use Rattle.tableau.proofs.Lines.{below-lent, equation-front, equations-none, equations-more}
+use Rattle.equations.proofs.Lines.{equation-front, equations-none, equations-more}
+use Rattle.tableau.proofs.Lines.{below-lent}
 
 pub kept-empty : (m k w : ℕ) → 0 < m → Kept m (empty m k w)
 kept-empty m k zero h = tt

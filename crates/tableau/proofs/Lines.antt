@@ -2,23 +2,19 @@
 --   below-lent, below-unit              residues
 --   turned-append, turned-reverse       a vector turned round, in front of other numbers
 --   load-length, load-is, load-below    the parts of a line put together: the unknowns T, the constant v, the carried columns U
---   equations-none, equations-more      a list of numbers without a whole line, and with one
---   equation-front                      an equation is read off the line alone
 use mathlib.Core.Path.{_≡_, refl, sym, ap, ap₂, _∙_, subst}
 use mathlib.Core.List.{List, [], _∷_, _++_, append-assoc, reverseAux}
-use Prim.Native.Nat.{ℕ, zero, suc, _+_, _/_, _%_, _≤_, _<_}
-use native.Mathlib.Nat.{div-eq-of-lt, mod-lt}
-use native.Mathlib.Numerals.{add-one}
+use Prim.Native.Nat.{ℕ, zero, suc, _+_, _%_, _<_}
+use native.Mathlib.Nat.{mod-lt}
 use native.Mathlib.Omega.{arith}
 use lib.ListN.{length, take, drop, getD, set, length-append, length-drop, length-set}
-use lib.Seq.{take-at, take-take, getD-take, drop-cons, set-at, append-snoc}
-use Rattle.slices.proofs.Parts.{lent, putBack, lent-is, lent-length, put-back-is, parts-suc}
+use lib.Seq.{take-at, drop-cons, set-at, append-snoc}
+use Rattle.slices.proofs.Parts.{lent, putBack, lent-is, lent-length, put-back-is}
 use Rattle.residue.specs.Negative.{negative}
-use Rattle.equations.specs.Equation.{Equation}
 use Rattle.equations.specs.Vectors.{Below}
 use Rattle.elimination.specs.Tableau.{line, unit, turned}
 use Rattle.elimination.proofs.Turned.{below-turned}
-use Rattle.equations.specs.Lines.{equationAt, equationsWithin, equationsOf}
+use Rattle.equations.specs.Lines.{equationAt}
 use Rattle.equations.proofs.Vectors.{below-zeros, below-drop, below-take}
 
 pub below-lent : (m i : ℕ) (v : List ℕ) → Below m v → Below m (lent i v)
@@ -72,23 +68,3 @@ load-below m n k i e h b =
     subst (Below m) (turned-reverse n e _)
     (below-turned m n e (negative m (getD e n 0) % m ∷ unit k i) (below-take m n e b)
     (mod-lt (negative m (getD e n 0)) (omega arith), below-unit m k i h))
-
--- ---- equations one behind the other
-
-pub equation-front : (n : ℕ) (s : List ℕ) → equationAt n (take (n + 1) s) ≡ equationAt n s
-equation-front n s =
-    ap₂ {C = Equation} (λ c r. record { coefficients = c; right = r }) (take-take n (n + 1) s (omega arith))
-    (getD-take (n + 1) s n 0 (omega arith))
-
-pub equations-none : (n : ℕ) (s : List ℕ) → length s ≤ n → equationsOf n s ≡ []
-unfolding equationsOf
-equations-none n s h =
-    let e : length s / suc n ≡ 0 = div-eq-of-lt (omega arith) in
-    ap (λ (c : ℕ). equationsWithin c n s) e
-
-pub equations-more : (n : ℕ) (s : List ℕ) → n < length s → equationsOf n s ≡ equationAt n s ∷ equationsOf n (drop (n + 1) s)
-unfolding equationsOf
-equations-more n s h =
-    ap (λ (c : ℕ). equationsWithin c n s)
-    (parts-suc (suc n) s (omega arith) (omega arith))
-    ∙ ap (λ (j : ℕ). equationAt n s ∷ equationsWithin (length (drop j s) / suc n) n (drop j s)) (sym (add-one n))

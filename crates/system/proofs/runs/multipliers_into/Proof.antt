@@ -14,7 +14,7 @@ use Rattle.equations.specs.Lines.{equationsOf}
 use Rattle.tableau.specs.Packed.{rows, triangle}
 use Rattle.tableau.proofs.Packed.{triangle-front}
 use Rattle.system.proofs.Rows.{carried-rows}
-use Rattle.system.proofs.Lines.{length-equations, equations-few}
+use Rattle.equations.proofs.Lines.{length-equations, equations-few}
 use Rattle.system.proofs.runs.multipliers_into.Statement.{statement}
 use Rattle.system.proofs.runs.multipliers_into.Tie as tie
 

@@ -14,7 +14,7 @@ use Rattle.tableau.specs.Packed.{rows, triangle, Kept}
 use Rattle.system.specs.Posed.{Posed}
 use Rattle.system.specs.Model.Reading.{Readable, Laid, readVectors, answerVectors}
 use Rattle.system.proofs.Rows.{triangle-within}
-use Rattle.system.proofs.Lines.{equations-shaped}
+use Rattle.equations.proofs.Lines.{equations-shaped}
 use Rattle.system.proofs.Laid.{few}
 use Rattle.system.proofs.Answer.{vectors-solved, vectors-none}
 use Rattle.system.proofs.runs.solution_into.Statement.{statement}

@@ -8,7 +8,7 @@ use lib.Seq.{length-take-le}
 use Rattle.tableau.specs.Packed.{triangle}
 use Rattle.system.specs.Posed.{Posed}
 use Rattle.system.proofs.Rows.{triangle-mono}
-use Rattle.system.proofs.Lines.{equations-few}
+use Rattle.equations.proofs.Lines.{equations-few}
 use borrow.Author.Needs.{needs}
 use Rattle.system.proofs.solving.refutation.Statement.{statement}
 use Rattle.system.proofs.solving.refutation.Tie as tie

@@ -1,0 +1,81 @@
+-- What a mark says, and what may be asked about an accepted claim.
+--   marked-refused             a refused claim
+--   mark-reads, mark-shape     an accepted one: the sheet is opened, and the claim has its shape
+--   mark-copied                its entries, copied to another place, may be marked
+--   mark-passed, mark-failed   and so they are
+use mathlib.Core.Path.{_≡_, sym, ap, subst, _∙_}
+use mathlib.Core.Bool.{Bool, true, false}
+use mathlib.Core.List.{List, _∷_}
+use Prim.Native.Nat.{ℕ, _-_, _≤_}
+use native.Mathlib.Omega.{arith}
+use borrow.Author.Tests.{ne-eqb}
+use lib.Dec.{T}
+use lib.ListN.{length, take, length-map}
+use Rattle.slices.specs.Over.{over}
+use Rattle.slices.proofs.Parts.{lent, lent-is, lent-length}
+use Rattle.slices.proofs.Over.{over-front}
+use Rattle.residue.proofs.Questions.{AllYes}
+use Rattle.equations.specs.Multipliers.{allBelow}
+use Rattle.equations.specs.Lines.{equationsOf}
+use Rattle.equations.specs.Claim.{passes}
+use Rattle.system.specs.Claims.{Claimed, claimOf}
+use Rattle.words.specs.Words.{numberOf, numbersOf}
+use Rattle.ledger.specs.Ledger.{Ledger, opened, isOpened}
+use Rattle.ledger.specs.Shapes.{isClaim, entriesOf}
+use Rattle.ledger.specs.Marking.{claimPasses}
+use Rattle.ledger.specs.Calls.{marks}
+use Rattle.ledger.specs.Questions.{questions, refusalOf}
+use Rattle.ledger.proofs.Claims.{claimed}
+use Rattle.ledger.proofs.Questions.{accepted-yes}
+use Rattle.sheet.specs.declared.Sheet.{Sheet}
+use Rattle.sheet.specs.declared.marking.Marked.the-variants.{Pass, Fail, Refused}
+use Rattle.sheet.specs.Record.{linesIn, readable, ledgerOf}
+use Rattle.sheet.specs.Calls.{markedOf}
+use Rattle.sheet.proofs.Reading.{opened-readable, ledger-opened}
+
+pub marked-refused : (l : Ledger) (ws : List ℕ) (k : ℕ) → refusalOf l (marks ws) ≡ k → (k ≡ 0 → ⊥) → Refused k ≡ markedOf l ws
+unfolding markedOf
+marked-refused l ws k refused h = rw (refused, ne-eqb k 0 h)
+
+entries-read : (ws old : List ℕ) {new : List ℕ} → new ≡ over (numbersOf (lent 1 ws)) old
+    → take (length ws - 1) new ≡ entriesOf ws
+entries-read ws old is =
+    over-front (length ws - 1) (numbersOf (lent 1 ws)) old is (length-map (lent 1 ws) numberOf ∙ lent-length 1 ws)
+    ∙ ap numbersOf (lent-is 1 ws)
+
+module _ (s : Sheet) (ws : List ℕ) (accepted : refusalOf (ledgerOf s) (marks ws) ≡ 0) where
+  pub mark-reads : readable s ≡ true
+  mark-reads = opened-readable s (accepted-yes (ledgerOf s) (marks ws) accepted .0)
+
+  answers-yes : AllYes (questions (opened (s .modulus) (s .unknowns) (equationsOf (s .unknowns) (linesIn s))) (marks ws))
+  answers-yes = subst (λ (l : Ledger). AllYes (questions l (marks ws))) (ledger-opened s mark-reads) (accepted-yes (ledgerOf s) (marks ws) accepted)
+
+  pub mark-shape : T (isClaim (s .unknowns) ws)
+  mark-shape = answers-yes .1 .0
+
+  mark-claimed : Claimed (s .modulus) (s .unknowns) (entriesOf ws)
+  mark-claimed = claimed (s .unknowns) ws mark-shape (s .modulus) (answers-yes .1 .1 .0)
+
+  module _ (old new : List ℕ) (copied : new ≡ over (numbersOf (lent 1 ws)) old) where
+    pub mark-copied : Claimed (s .modulus) (s .unknowns) (take (length ws - 1) new)
+    mark-copied = subst (Claimed (s .modulus) (s .unknowns)) (sym (entries-read ws old copied)) mark-claimed
+
+    module _ (result : Bool)
+        (is : result ≡ passes (s .modulus) (s .unknowns) (equationsOf (s .unknowns) (linesIn s))
+        (claimOf (s .unknowns) (take (length ws - 1) new))) where
+      decided : claimPasses (ledgerOf s) ws ≡ result
+      decided =
+          ap (λ (l : Ledger). claimPasses l ws) (ledger-opened s mark-reads)
+          ∙ ap
+          (λ (xs : List ℕ).
+          passes (s .modulus) (s .unknowns) (equationsOf (s .unknowns) (linesIn s)) (claimOf (s .unknowns) xs))
+          (sym (entries-read ws old copied))
+          ∙ sym is
+
+      pub mark-passed : result ≡ true → Pass ≡ markedOf (ledgerOf s) ws
+      unfolding markedOf
+      mark-passed h = rw (accepted, decided, h)
+
+      pub mark-failed : result ≡ false → Fail ≡ markedOf (ledgerOf s) ws
+      unfolding markedOf
+      mark-failed h = rw (accepted, decided, h)

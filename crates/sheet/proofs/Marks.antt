@@ -1,0 +1,76 @@
+-- A mark is right: what demand 3 says of it.
+--   marked-accepted    an accepted claim is passed or failed
+--   right-mark         it is passed exactly when it describes the solutions of the ledger's equations
+--   own-mark           an answer's own words, where there is a solution, are passed
+use mathlib.Core.Path.{_≡_, refl, ap, _∙_}
+use mathlib.Core.Logic.{_↔_}
+use mathlib.Core.Bool.{Bool, true, false, cond}
+use mathlib.Core.List.{List}
+use mathlib.Core.Option.{some}
+use Prim.Native.Nat.{ℕ, _<_, _≤_}
+use native.Mathlib.Omega.{arith}
+use lib.Dec.{T}
+use Rattle.equations.specs.Equation.{Equation}
+use Rattle.equations.specs.Answer.{startOf}
+use Rattle.equations.specs.Claim.{passes}
+use Rattle.equations.specs.Multipliers.{allBelow}
+use Rattle.equations.proofs.Truth.{true-of}
+use Rattle.equations.proofs.Claim.{passes-described}
+use Rattle.equations.proofs.Promises.{own-answer}
+use Rattle.system.proofs.Claims.{claim-described}
+use Rattle.words.specs.Words.{numbersOfAKind}
+use Rattle.ledger.specs.Ledger.{Ledger, opened}
+use Rattle.ledger.specs.Shapes.{isClaim, entriesOf, claimFrom}
+use Rattle.ledger.specs.Block.{answerWords}
+use Rattle.ledger.specs.Marking.{claimPasses}
+use Rattle.ledger.specs.Calls.{marks}
+use Rattle.ledger.specs.Questions.{refusalOf}
+use Rattle.ledger.proofs.Claims.{claimed}
+use Rattle.ledger.proofs.Refusals.{marks-accepted}
+use Rattle.ledger.proofs.Own.{own-shape, own-entries, own-claim}
+use Rattle.sheet.specs.declared.marking.Marked.the-variants.{Pass, Fail}
+use Rattle.sheet.specs.Calls.{markedOf}
+use Rattle.sheet.specs.Promises.{WellFormed, DescribesSolutions, RightMark}
+
+pub marked-accepted : (l : Ledger) (ws : List ℕ) → refusalOf l (marks ws) ≡ 0
+    → markedOf l ws ≡ cond (claimPasses l ws) Pass Fail
+unfolding markedOf
+marked-accepted l ws accepted = rw accepted
+
+-- a test that says the same as P decides the mark
+mark-by : (P : Type 0) (b : Bool) → T b ↔ P
+    → ((cond b Pass Fail ≡ Pass) ↔ P) × ((cond b Pass Fail ≡ Fail) ↔ (P → ⊥))
+mark-by P true same = (
+  ((λ e. same .0 tt), λ p. refl),
+  ((λ e. absurd (let z : _≡_ {A = ℕ} 0 1 = cc in omega arith)), λ no. absurd (no (same .0 tt))),
+)
+mark-by P false same = (
+  ((λ e. absurd (let z : _≡_ {A = ℕ} 0 1 = cc in omega arith)), λ p. absurd (same .1 p)),
+  ((λ e p. same .1 p), λ no. refl),
+)
+
+module _ (m n : ℕ) (es : List Equation) where
+  marked-well : (ws : List ℕ) → WellFormed m n ws
+      → markedOf (opened m n es) ws ≡ cond (passes m n es (claimFrom n ws)) Pass Fail
+  marked-well ws well =
+      marked-accepted (opened m n es) ws
+      (marks-accepted (opened m n es) refl ws (true-of (isClaim n ws) (well .0))
+      (true-of (allBelow m (entriesOf ws)) (well .1)))
+
+  pub right-mark : 0 < m → (ws : List ℕ) → WellFormed m n ws
+      → RightMark m n es (claimFrom n ws) (markedOf (opened m n es) ws)
+  right-mark pos ws well =
+      let both =
+      mark-by (DescribesSolutions m n es (claimFrom n ws)) (passes m n es (claimFrom n ws))
+      (passes-described m n es (claimFrom n ws)
+      (claim-described m n (entriesOf ws) pos (claimed n ws (well .0) m (well .1)))) in
+      rw (marked-well ws well) (record { passed = both .0; failed = both .1 })
+
+  pub own-mark : 0 < m → m ≤ numbersOfAKind → 0 < n → n ≤ 16 → (c : List ℕ) → startOf m n es ≡ some c
+      → markedOf (opened m n es) (answerWords (opened m n es)) ≡ Pass
+  own-mark pos largest one unknowns c start =
+      marked-well (answerWords (opened m n es))
+      (own-shape m n es largest c start unknowns, own-entries m n es largest c start)
+      ∙ ap (λ (b : Bool). cond b Pass Fail)
+      (ap (passes m n es) (own-claim m n es largest c start one)
+      ∙ true-of _ (own-answer m n es pos .0 c start))

@@ -1,0 +1,42 @@
+-- What lies in the list of numbers of a claim.
+--   claim-of-flat      a start with its steps, one behind the other, are found again
+--   claim-described    a well-formed claim describes only vectors of n residues
+use mathlib.Core.Path.{_≡_, refl, ap₂, _∙_, ap}
+use mathlib.Core.List.{List, [], _∷_, _++_, flatten}
+use Prim.Native.Nat.{ℕ, _<_}
+use native.Mathlib.Omega.{arith}
+use lib.ListN.{length, take, drop, length-append}
+use lib.Seq.{take-at, drop-at, length-take-le}
+use lib.Dec.{T}
+use Rattle.equations.specs.Vectors.{Vector}
+use Rattle.equations.specs.Claim.{from, describes}
+use Rattle.equations.proofs.Vectors.{vector-length, vector-of, below-take, below-drop}
+use Rattle.equations.proofs.Claim.{describes-nothing}
+use Rattle.equations.proofs.Listed.{AllVectors, described-vector}
+use Rattle.system.specs.Claims.{vectorsOf, claimOf, Claimed}
+use Rattle.system.proofs.Chunks.{vectors-listed, vectors-flatten}
+use Rattle.system.proofs.Marks.{claim-front}
+
+claim-of-cons : (n : ℕ) (s : List ℕ) → 0 < length s → claimOf n s ≡ from (take n s) (vectorsOf n (drop n s))
+unfolding claimOf
+claim-of-cons n [] h = absurd (omega arith)
+claim-of-cons n (x ∷ s) h = refl
+
+pub claim-of-flat : (m n : ℕ) (c : List ℕ) (ss : List (List ℕ)) → 0 < n → Vector m n c → AllVectors m n ss
+    → claimOf n (c ++ flatten ss) ≡ from c ss
+claim-of-flat m n c ss pos start steps =
+    let long = vector-length m n c start in
+    claim-of-cons n (c ++ flatten ss) (omega (arith, length-append c (flatten ss)))
+    ∙ ap₂ from (take-at c (flatten ss) n long)
+    (ap (vectorsOf n) (drop-at c (flatten ss) n long) ∙ vectors-flatten m n ss pos steps)
+
+pub claim-described : (m n : ℕ) (claim : List ℕ) → 0 < m → Claimed m n claim → (v : List ℕ)
+    → T (describes m (claimOf n claim) v) → Vector m n v
+unfolding claimOf
+claim-described m n [] pos claimed v t = absurd (describes-nothing m v t)
+claim-described m n (x ∷ s) pos claimed v t =
+    let claim : List ℕ = x ∷ s in
+    described-vector m n pos (take n claim)
+    (vector-of m n (take n claim)
+    (length-take-le n claim (claim-front m n claim claimed (λ h. omega arith))) (below-take m n claim (claimed .residues)))
+    (vectorsOf n (drop n claim)) (vectors-listed m n (drop n claim) (below-drop m n claim (claimed .residues))) v t
