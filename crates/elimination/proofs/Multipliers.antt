@@ -22,7 +22,8 @@ use Rattle.equations.specs.Multipliers.{column, rights, refutes}
 use Rattle.equations.proofs.Dot.{dot-comm, dot-zeros-right}
 use Rattle.equations.proofs.Multipliers.{refutes-is}
 use Rattle.elimination.specs.Tableau.{unit, tableau}
-use Rattle.elimination.specs.Multipliers.{multipliersOf, multipliers-row}
+use Rattle.elimination.specs.Multipliers.{multipliersOf}
+use Rattle.elimination.specs.Multipliers.Row.{multipliers-row}
 use Rattle.elimination.proofs.Lines.{length-unit}
 use Rattle.elimination.proofs.Row.{RowAt, tail-at}
 use Rattle.elimination.proofs.Tableau.{tableau-below}

@@ -1,7 +1,4 @@
--- What the questions let into a ledger.
---   Residues        every coefficient and every right side is below m
---   Allowed         m, n and equations as the questions want them
---   ledger-sound    an opened ledger has nothing else in it
+-- What the questions let into a ledger, `ledger-sound`: an opened ledger has nothing else in it.
 use mathlib.Core.Path.{_≡_, subst, _∙_}
 use mathlib.Core.List.{List, [], _∷_, _++_}
 use Prim.Native.Nat.{ℕ, zero, suc, _+_, _-_, _<_, _≤_}
@@ -20,14 +17,11 @@ use Rattle.ledger.specs.Ledger.{Ledger, unopened, opened, mostEquations,
 use Rattle.ledger.specs.Shapes.{numberAt, isEquation, equationFrom}
 use Rattle.ledger.specs.Calls.{Call, opens, adds, strikes, answers, marks, strikesFromTape, answersFromTape, meaningless}
 use Rattle.ledger.specs.Questions.{refusalOf}
+use Rattle.ledger.specs.Allowed.{Residues, Allowed}
 use Rattle.ledger.specs.History.{entered, extended, shortened, ledger}
 use Rattle.ledger.proofs.Shapes.{equation-length}
 use Rattle.ledger.proofs.Questions.{accepted-yes, within-range}
 use Rattle.ledger.proofs.History.{ledger-keeps}
-
-abbrev pub Residues : ℕ → List Equation → Type 0
-Residues m [] = Unit {0}
-Residues m (e ∷ es) = Below m (e .coefficients) × (e .right < m) × Residues m es
 
 residues-snoc : (m : ℕ) (es : List Equation) (e : Equation) → Residues m es → Below m (e .coefficients) → e .right < m
     → Residues m (es ++ (e ∷ []))
@@ -38,15 +32,6 @@ residues-take : (m k : ℕ) (es : List Equation) → Residues m es → Residues 
 residues-take m zero es h = tt
 residues-take m (suc k) [] h = tt
 residues-take m (suc k) (e ∷ es) h = (h .0, h .1, residues-take m k es (h .2))
-
-pub record Allowed (m n : ℕ) (es : List Equation) : Type 0 where
-  pub modulus : 2 ≤ m
-  pub largest : m ≤ largestModulus
-  pub some : 1 ≤ n
-  pub unknowns : n ≤ mostUnknowns
-  pub equations : length es ≤ mostEquations
-  pub shaped : Shaped n es
-  pub residues : Residues m es
 
 abbrev Sound : Ledger → Type 0
 Sound unopened = Unit {0}

@@ -13,6 +13,10 @@ blockWords [] = []
 blockWords (zero ∷ ks) = word headKind 0 ∷ wordsOf multiplierKind ks
 blockWords (suc k ∷ xs) = word headKind (suc k) ∷ wordsOf entryKind xs
 
+-- how many words the longest block has: a head, and 17 vectors of 16 entries
+abbrev pub longestBlock : ℕ
+longestBlock = 273
+
 -- the block that answers the equations in the ledger
 unfoldable pub answerWords : Ledger → List ℕ
 answerWords unopened = []

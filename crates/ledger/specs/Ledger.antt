@@ -20,7 +20,7 @@ abbrev pub isOpened : Ledger → Bool
 isOpened unopened = false
 isOpened (opened m n es) = true
 
--- m, n and the list; of an unopened ledger, which has none of them, nobody asks for more than that it is not opened
+-- m, n and the list; an unopened ledger has none of them, so that they count as 0 and as no equations
 abbrev pub modulusOf : Ledger → ℕ
 modulusOf unopened = 0
 modulusOf (opened m n es) = m

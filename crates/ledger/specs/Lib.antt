@@ -1,6 +1,7 @@
 -- What document 01 means by a list of calls; no sheet's record and no method stands here.
--- Read in this order: Ledger, Shapes, Block, Marking, Calls, Questions, History.
+-- Read in this order: Ledger, Allowed, Shapes, Block, Marking, Calls, Questions, History.
 pub mod Ledger
+pub mod Allowed
 pub mod Shapes
 pub mod Block
 pub mod Marking

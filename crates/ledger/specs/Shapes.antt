@@ -37,6 +37,6 @@ isClaim n ws = leb (numberAt ws 0) largestHead && haveKinds ws (headKind ∷ rep
 abbrev pub entriesOf : List ℕ → List ℕ
 entriesOf ws = numbersOf (drop 1 ws)
 
--- no entries at all are head 0: n is not 0
+-- The claim that lies in well-formed words. There n is not 0, so that no entries at all are head 0.
 abbrev pub claimFrom : ℕ → List ℕ → Claim
 claimFrom n ws = claimOf n (entriesOf ws)

@@ -7,7 +7,7 @@ use mathlib.Core.Logic.{⊎-elim}
 use mathlib.Core.List.{List}
 use Prim.Native.Nat.{ℕ, _<_, _≤_}
 use native.Mathlib.Omega.{arith}
-use borrow.Author.Tests.{ne-eqb}
+use borrow.Author.Tests.{ne-eqb, lt-leb}
 use lib.ListN.{length, take}
 use lib.Dec.{eqb→eq}
 use Rattle.slices.proofs.Over.{over-front}
@@ -21,16 +21,19 @@ use Rattle.ledger.specs.Block.{answerWords}
 use Rattle.ledger.specs.Calls.{Call, answers, answersFromTape}
 use Rattle.ledger.specs.Questions.{refusalOf}
 use Rattle.ledger.specs.History.{ledger}
+use Rattle.ledger.proofs.Answer.{answer-fits}
 use Rattle.ledger.proofs.Refusals.{answers-fit, answers-word-plain}
 use Rattle.ledger.proofs.History.{Opened, opening-opens}
-use Rattle.ledger.proofs.Sound.{Allowed, ledger-sound}
+use Rattle.ledger.specs.Allowed.{Allowed}
+use Rattle.ledger.proofs.Sound.{ledger-sound}
 use Rattle.sheet.specs.declared.marking.Marked.the-variants.{Pass}
+use Rattle.sheet.specs.declared.answering.Answered.the-variants.{Refused as Answered·Refused}
 use Rattle.sheet.specs.Record.{ledgerOf}
 use Rattle.sheet.specs.Calls.{turnOf, enteredOf, answeredOf, bufferAfter, markedOf}
 use Rattle.sheet.specs.History.{after}
-use Rattle.sheet.specs.Promises.{NothingSolves, RightAnswer, RightMark, Promised, Demand3, DecidedAlways, OwnBlockPasses}
+use Rattle.sheet.specs.Promises.{NothingSolves, RightBlock, Shown, RightMark, Promised, Demand3, DecidedAlways, OwnBlockPasses}
 use Rattle.sheet.proofs.History.{after-reads, left-refused}
-use Rattle.sheet.proofs.Answers.{buffer-accepted, right-answer}
+use Rattle.sheet.proofs.Answers.{buffer-accepted, right-answer, right-block}
 use Rattle.sheet.proofs.Marks.{right-mark, own-mark}
 
 -- ---- demand 3
@@ -51,10 +54,15 @@ module _ (calls : List Call) (m n : ℕ) (es : List Equation) (holds : ledger ca
       (subst (λ (l : Ledger). length (answerWords l) ≤ length old) holds h)
 
   right : (c : Call) (old : List ℕ) → refusalOf (opened m n es) c ≡ 0
-      → RightAnswer m n es old (answeredOf (ledgerOf (after calls)) c) (bufferAfter (ledgerOf (after calls)) c old)
+      → Shown (answerWords (opened m n es)) old (answeredOf (ledgerOf (after calls)) c) (bufferAfter (ledgerOf (after calls)) c old)
   right c old accepted =
-      subst (λ (l : Ledger). RightAnswer m n es old (answeredOf l c) (bufferAfter l c old)) (sym reads)
+      subst (λ (l : Ledger). Shown (answerWords (opened m n es)) old (answeredOf l c) (bufferAfter l c old)) (sym reads)
       (right-answer m n es positive (allowed .shaped) old c accepted)
+
+  short-refused : (old : List ℕ) → length old < length (answerWords (opened m n es))
+      → answeredOf (opened m n es) (answers old) ≡ Answered·Refused 8
+  unfolding answeredOf refusalOf
+  short-refused old h = rw (lt-leb (length (answerWords (opened m n es))) (length old) h)
 
   promised : Promised calls
   promised =
@@ -63,8 +71,13 @@ module _ (calls : List Call) (m n : ℕ) (es : List Equation) (holds : ledger ca
         n = n;
         es = es;
         holds = holds;
-        answer = λ old h. right (answers old) old (fits old h);
-        answerFromTape = λ w old plain.
+        allowed = allowed;
+        block = answerWords (opened m n es);
+        right = right-block m n es positive (allowed .shaped);
+        fits = answer-fits m n es positive (allowed .shaped) (allowed .equations) (allowed .unknowns);
+        answer = λ old h. right (answers old) old (fits old (subst (λ (l : Ledger). length (answerWords l) ≤ length old) (sym holds) h));
+        short = λ old h. ap (λ (l : Ledger). answeredOf l (answers old)) reads ∙ short-refused old h;
+        answerFromTape = λ w old plain room.
             right (answersFromTape w) old
             (answers-word-plain (opened m n es) refl w (eqb→eq (numberOf w) 0 plain));
         mark = λ ws well.
@@ -113,6 +126,7 @@ decided-always calls =
     let refused : (c : Call) → 0 < refusalOf (ledger calls) c → 0 < refusalOf (ledgerOf (after calls)) c =
     λ c h. subst (λ (l : Ledger). 0 < refusalOf l c) (sym reads) h in
     record {
+      reads = reads;
       entering = λ c. ap (λ (l : Ledger). enteredOf l c) reads;
       answering = λ c. ap (λ (l : Ledger). answeredOf l c) reads;
       marking = λ ws. ap (λ (l : Ledger). markedOf l ws) reads;

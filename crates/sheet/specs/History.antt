@@ -23,6 +23,7 @@ unfoldable pub sheetFrom : Sheet → List Call → Sheet
 sheetFrom s [] = s
 sheetFrom s (c ∷ calls) = sheetFrom (left s c) calls
 
--- the sheet after the calls, the first of them on a fresh sheet
+-- The sheet after the calls, the first of them on a fresh sheet. "Each call gets the sheet as the one before left it, and
+-- nobody else writes it meanwhile": it goes by value from call to call.
 abbrev pub after : List Call → Sheet
 after calls = sheetFrom fresh calls

@@ -20,9 +20,10 @@ use Rattle.equations.specs.Answer.{startOf, stepsOf}
 use Rattle.equations.specs.Multipliers.{refutes, allBelow}
 use Rattle.equations.specs.Claim.{Claim, describes}
 use Rattle.words.specs.Words.{word, wordsOf, headKind, entryKind, multiplierKind}
-use Rattle.ledger.specs.Ledger.{Ledger, opened, equationsIn}
+use Rattle.ledger.specs.Ledger.{opened, equationsIn}
+use Rattle.ledger.specs.Allowed.{Allowed}
 use Rattle.ledger.specs.Shapes.{isClaim, entriesOf, claimFrom}
-use Rattle.ledger.specs.Block.{answerWords}
+use Rattle.ledger.specs.Block.{longestBlock, answerWords}
 use Rattle.ledger.specs.Marking.{claimPasses}
 use Rattle.ledger.specs.Calls.{Call, opens, answers, marks, answersFromTape}
 use Rattle.ledger.specs.Questions.{plain, refusalOf}
@@ -49,21 +50,23 @@ OpeningAccepted calls =
 abbrev pub NothingSolves : ℕ → ℕ → List Equation → Type 0
 NothingSolves m n es = (v : List ℕ) → Vector m n v → T (solves m es v) → ⊥
 
--- What an answer says of es, and what it makes of a buffer that held `old`. `over` keeps what is behind the block.
-pub record RightAnswer (m n : ℕ) (es : List Equation) (old : List ℕ) (answered : Answered) (buffer : List ℕ) : Type 0 where
-  pub accepted : answered ≡ Wrote (length (answerWords (opened m n es)))
+-- The block that answers es, word for word.
+pub record RightBlock (m n : ℕ) (es : List Equation) (block : List ℕ) : Type 0 where
   -- 'says "no solution" exactly when no vector of residues solves all those equations'
-  pub none : (getD buffer 0 0 ≡ word headKind 0) ↔ NothingSolves m n es
+  pub none : (getD block 0 0 ≡ word headKind 0) ↔ NothingSolves m n es
   -- "In that case it shows multipliers, one for each equation, under which they add up mod m to 0 = a number that
   -- is not 0."
   pub multipliers : NothingSolves m n es
-      → (ks : List ℕ) × T (refutes m n es ks) × (buffer ≡ over (word headKind 0 ∷ wordsOf multiplierKind ks) old)
+      → (ks : List ℕ) × T (refutes m n es ks) × (block ≡ word headKind 0 ∷ wordsOf multiplierKind ks)
   -- "Otherwise it is the answer of demand 2 for those equations: 01's starting vector, then all of 01's steps
   -- and no others, by rising place."
   pub vectors : (NothingSolves m n es → ⊥)
       → (start : List ℕ) × (startOf m n es ≡ some start)
-      × (buffer ≡ over (word headKind (suc (length (stepsOf m n es)))
-      ∷ wordsOf entryKind (start ++ flatten (stepsOf m n es))) old)
+      × (block ≡ word headKind (suc (length (stepsOf m n es))) ∷ wordsOf entryKind (start ++ flatten (stepsOf m n es)))
+
+-- an answer that wrote the block to the front of a buffer that held `old`, and kept what is behind it
+abbrev pub Shown : List ℕ → List ℕ → Answered → List ℕ → Type 0
+Shown block old answered buffer = (answered ≡ Wrote (length block)) × (buffer ≡ over block old)
 
 -- "a well-formed claim": "if its shape is right and its entries are below m"
 abbrev pub WellFormed : ℕ → ℕ → List ℕ → Type 0
@@ -85,13 +88,20 @@ pub record Promised (calls : List Call) : Type 0 where
   pub n : ℕ
   pub es : List Equation
   pub holds : ledger calls ≡ opened m n es
-  -- "An answer asked for then, into a long enough buffer": "a buffer is long enough if question 8 says so"
-  pub answer : (old : List ℕ) → length (answerWords (ledger calls)) ≤ length old
-      → RightAnswer m n es old (answeredOf (ledgerOf (after calls)) (answers old))
+  pub allowed : Allowed m n es
+  -- the block that answers them
+  pub block : List ℕ
+  pub right : RightBlock m n es block
+  pub fits : length block ≤ longestBlock
+  -- "An answer asked for then, into a long enough buffer": "Buffer long enough for this block? 8"
+  pub answer : (old : List ℕ) → length block ≤ length old
+      → Shown block old (answeredOf (ledgerOf (after calls)) (answers old))
       (bufferAfter (ledgerOf (after calls)) (answers old) old)
-  -- the same from tape, where the buffer always is, with a word whose number is 0
-  pub answerFromTape : (w : ℕ) (old : List ℕ) → T (plain w)
-      → RightAnswer m n es old (answeredOf (ledgerOf (after calls)) (answersFromTape w))
+  pub short : (old : List ℕ) → length old < length block
+      → answeredOf (ledgerOf (after calls)) (answers old) ≡ Answered·Refused 8
+  -- the same from tape, with a word whose number is 0, into a buffer that every block fits: "on tape it always is" long enough
+  pub answerFromTape : (w : ℕ) (old : List ℕ) → T (plain w) → length old ≡ longestBlock
+      → Shown block old (answeredOf (ledgerOf (after calls)) (answersFromTape w))
       (bufferAfter (ledgerOf (after calls)) (answersFromTape w) old)
   -- "And a well-formed claim marked then"
   pub mark : (ws : List ℕ) → WellFormed m n ws
@@ -103,8 +113,10 @@ abbrev pub Demand3 : Type 0
 Demand3 = (calls : List Call) → OpeningAccepted calls → Promised calls
 
 -- What holds after every list, opened or not: the questions, asked of the ledger of that list, decide each call, and what
--- is refused changes nothing.
+-- is refused changes nothing. `entering` is about open, add and strike, `answering` about answers.
 pub record Decided (calls : List Call) : Type 0 where
+  -- the sheet reads as the ledger that sees the calls alone
+  pub reads : ledgerOf (after calls) ≡ ledger calls
   -- "Nothing is turned away except by a question in document 01, with that question's number"
   pub entering : (c : Call)
       → turnOf (after calls) c .entered

@@ -31,13 +31,13 @@ filled s = s .held * (s .unknowns + 1)
 abbrev pub linesIn : Sheet → List ℕ
 linesIn s = take (filled s) (s .cells)
 
--- whether the record is one that calls can make
+-- whether the numbers of the record that count are such as calls put there
 abbrev pub readable : Sheet → Bool
 readable s =
     allowedModulus (s .modulus) && allowedUnknowns (s .unknowns) && leb (s .held) mostEquations
     && eqb (length (s .cells)) room && allBelow (s .modulus) (linesIn s)
 
--- The ledger that a sheet reads as. Any other record, which no call can have made, reads as unopened.
+-- The ledger that a sheet reads as. A record with other numbers, such as the fresh one, reads as unopened.
 unfoldable pub ledgerOf : Sheet → Ledger
 ledgerOf s = cond (readable s) (opened (s .modulus) (s .unknowns) (equationsOf (s .unknowns) (linesIn s))) unopened
 

@@ -14,7 +14,7 @@ use system::residues::all_below;
 use words::reading::number;
 use words::reading::numbers_below;
 
-// Whether the sheet is opened: its record is one that calls can make.
+// Whether the sheet is opened: the numbers that count are such as calls put there.
 pub(crate) fn is_opened(sheet: Sheet) -> bool
     ensures { λ r. ⌜ r ≡ isOpened (ledgerOf sheet) ⌝ }
 {

@@ -8,7 +8,8 @@ use borrow.Author.Needs.{needs}
 use Rattle.slices.specs.Over.{over}
 use Rattle.slices.proofs.Parts.{lent, lent-is, lent-length}
 use Rattle.slices.proofs.Over.{over-front}
-use Rattle.elimination.specs.Multipliers.{multipliersOf, multipliers-row}
+use Rattle.elimination.specs.Multipliers.{multipliersOf}
+use Rattle.elimination.specs.Multipliers.Row.{multipliers-row}
 use Rattle.elimination.specs.Tableau.{tableau}
 use Rattle.equations.specs.Lines.{equationsOf}
 use Rattle.tableau.specs.Packed.{rows, triangle}
