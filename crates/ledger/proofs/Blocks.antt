@@ -2,7 +2,7 @@
 --   block-words-length   there are as many as the block has numbers
 --   block-words-none     behind head 0 stand multipliers
 --   block-words-some     behind any other head stand vectors' entries
-use mathlib.Core.Path.{_≡_, refl, sym, ap, _∙_}
+use mathlib.Core.Path.{_≡_, refl, ap}
 use mathlib.Core.List.{List, [], _∷_}
 use Prim.Native.Nat.{ℕ, zero, suc, _<_}
 use native.Mathlib.Omega.{arith}

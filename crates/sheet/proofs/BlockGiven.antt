@@ -3,9 +3,9 @@
 --   answer-size                        how many words the block has
 --   answered-wrote, buffer-wrote       an answer whose block is written
 --   tape-answered, tape-buffer         any block fits 273 words, so that an answer from tape is such an answer
-use mathlib.Core.Path.{_≡_, refl, sym, ap, _∙_}
+use mathlib.Core.Path.{_≡_, sym, ap, _∙_}
 use mathlib.Core.List.{List, _∷_}
-use Prim.Native.Nat.{ℕ, suc, _+_, _≤_}
+use Prim.Native.Nat.{ℕ, _+_, _≤_}
 use native.Mathlib.Omega.{arith}
 use borrow.Author.Tests.{ne-eqb}
 use lib.ListN.{length, take}

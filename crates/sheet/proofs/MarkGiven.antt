@@ -5,9 +5,8 @@
 --   mark-passed, mark-failed   and so they are
 use mathlib.Core.Path.{_≡_, sym, ap, subst, _∙_}
 use mathlib.Core.Bool.{Bool, true, false}
-use mathlib.Core.List.{List, _∷_}
-use Prim.Native.Nat.{ℕ, _-_, _≤_}
-use native.Mathlib.Omega.{arith}
+use mathlib.Core.List.{List}
+use Prim.Native.Nat.{ℕ, _-_}
 use borrow.Author.Tests.{ne-eqb}
 use lib.Dec.{T}
 use lib.ListN.{length, take, length-map}
@@ -15,12 +14,11 @@ use Rattle.slices.specs.Over.{over}
 use Rattle.slices.proofs.Parts.{lent, lent-is, lent-length}
 use Rattle.slices.proofs.Over.{over-front}
 use Rattle.residue.proofs.Questions.{AllYes}
-use Rattle.equations.specs.Multipliers.{allBelow}
 use Rattle.equations.specs.Lines.{equationsOf}
 use Rattle.equations.specs.Claim.{passes}
 use Rattle.system.specs.Claims.{Claimed, claimOf}
 use Rattle.words.specs.Words.{numberOf, numbersOf}
-use Rattle.ledger.specs.Ledger.{Ledger, opened, isOpened}
+use Rattle.ledger.specs.Ledger.{Ledger}
 use Rattle.ledger.specs.Shapes.{isClaim, entriesOf}
 use Rattle.ledger.specs.Marking.{claimPasses}
 use Rattle.ledger.specs.Calls.{marks}
@@ -31,7 +29,8 @@ use Rattle.sheet.specs.declared.Sheet.{Sheet}
 use Rattle.sheet.specs.declared.marking.Marked.the-variants.{Pass, Fail, Refused}
 use Rattle.sheet.specs.Record.{linesIn, readable, ledgerOf}
 use Rattle.sheet.specs.Calls.{markedOf}
-use Rattle.sheet.proofs.Reading.{opened-readable, ledger-opened}
+use Rattle.sheet.proofs.Reading.{lying, opened-readable, ledger-opened}
+use Rattle.sheet.proofs.Turns.{answered}
 
 pub marked-refused : (l : Ledger) (ws : List ℕ) (k : ℕ) → refusalOf l (marks ws) ≡ k → (k ≡ 0 → ⊥) → Refused k ≡ markedOf l ws
 unfolding markedOf
@@ -47,8 +46,8 @@ module _ (s : Sheet) (ws : List ℕ) (accepted : refusalOf (ledgerOf s) (marks w
   pub mark-reads : readable s ≡ true
   mark-reads = opened-readable s (accepted-yes (ledgerOf s) (marks ws) accepted .0)
 
-  answers-yes : AllYes (questions (opened (s .modulus) (s .unknowns) (equationsOf (s .unknowns) (linesIn s))) (marks ws))
-  answers-yes = subst (λ (l : Ledger). AllYes (questions l (marks ws))) (ledger-opened s mark-reads) (accepted-yes (ledgerOf s) (marks ws) accepted)
+  answers-yes : AllYes (questions (lying s) (marks ws))
+  answers-yes = answered s (marks ws) mark-reads accepted
 
   pub mark-shape : T (isClaim (s .unknowns) ws)
   mark-shape = answers-yes .1 .0

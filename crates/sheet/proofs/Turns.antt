@@ -1,5 +1,6 @@
 -- One call: the record after it reads as the ledger after it.
 --   reads-after    so it is for every record and every call
+--   answered       what the questions of an accepted call say of a readable record
 use mathlib.Core.Path.{_≡_, refl, sym, ap, subst, _∙_}
 use mathlib.Core.Bool.{Bool, true, false, cond}
 use mathlib.Core.List.{List}
@@ -27,7 +28,7 @@ use Rattle.sheet.proofs.Records.{reads-opening, reads-adding, reads-str
 
 module _ (s : Sheet) where
   -- what the questions of an accepted call say of a readable record
-  answered : (c : Call) → readable s ≡ true → refusalOf (ledgerOf s) c ≡ 0 → AllYes (questions (lying s) c)
+  pub answered : (c : Call) → readable s ≡ true → refusalOf (ledgerOf s) c ≡ 0 → AllYes (questions (lying s) c)
   answered c r none = accepted-yes (lying s) c (subst (λ (l : Ledger). refusalOf l c ≡ 0) (ledger-opened s r) none)
 
   reads-struck : readable s ≡ true → ledgerOf (withoutLast s) ≡ shortened (ledgerOf s)

@@ -59,11 +59,11 @@ impl Sheet {
     }
 }
 
-// The numbers of the block that answers the equations of an opened sheet.
+// The numbers of the block that answers the equations of an opened sheet; words can hold them all.
 fn block_of(sheet: Sheet) -> Answer
     requires { ⌜ isOpened (ledgerOf sheet) ≡ true ⌝ }
     ensures { λ r. ⌜ blockWords (r .head ∷ take (r .len) (r .numbers)) ≡ answerWords (ledgerOf sheet) ⌝ }
-    ensures { λ r. ⌜ (r .len ≤ 272) × (r .head ≤ 17) × (0 < r .head → sheet .unknowns ≤ r .len) ⌝ }
+    ensures { λ r. ⌜ (r .len ≤ length (r .numbers)) × (r .head ≤ 17) × (0 < r .head → sheet .unknowns ≤ r .len) ⌝ }
     ensures { λ r. ⌜ Below numbersOfAKind (take (r .len) (r .numbers)) ⌝ }
 {
     let n = sheet.unknowns;

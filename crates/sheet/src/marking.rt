@@ -15,7 +15,7 @@ pub enum Marked {
 }
 
 impl Sheet {
-    // Room for the entries of 17 vectors, each of 16.
+    // The numbers of the entries are marked: 17 vectors of 16 at most.
     pub fn mark(self, words: &[u32]) -> Marked
         ensures { λ r. ⌜ r ≡ markedOf (ledgerOf self) (now (words .entry)) ⌝ }
     {

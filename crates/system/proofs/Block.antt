@@ -3,6 +3,7 @@
 --   block-some     otherwise: a head, then the starting vector and the steps
 --   block-below    behind the head stand residues
 --   block-head     the head is at most the number of unknowns plus 1
+--   block-start    a head that is not 0 has a starting vector behind it
 --   block-length   how long a block can be
 use mathlib.Core.Path.{_≡_, ap}
 use mathlib.Core.Logic.{⊎-elim}
@@ -43,6 +44,17 @@ module _ (m n : ℕ) (es : List Equation) where
 
       solved : (c : List ℕ) × (startOf m n es ≡ some c) → getD (blockOf m n es) 0 0 ≤ n + 1
       solved (c, h) = rw (block-some c h) (omega (arith, steps-few m n es))
+
+  pub block-start : 0 < getD (blockOf m n es) 0 0 → n < length (blockOf m n es)
+  block-start head = ⊎-elim unsolved solved (start-found m n es)
+    where
+      unsolved : startOf m n es ≡ none → n < length (blockOf m n es)
+      unsolved h = absurd (omega (arith, ap (λ (z : List ℕ). getD z 0 0) (multipliers-block h)))
+
+      solved : (c : List ℕ) × (startOf m n es ≡ some c) → n < length (blockOf m n es)
+      solved (c, h) =
+          rw (block-some c h)
+          (omega (arith, length-append c (flatten (stepsOf m n es)), vector-length m n c (start-solves m n es c h .0)))
 
   module _ (pos : 0 < m) (shaped : Shaped n es) where
     pub block-none : startOf m n es ≡ none → (ks : List ℕ) × (blockOf m n es ≡ 0 ∷ ks) × T (refutes m n es ks)

@@ -50,7 +50,7 @@ returns c =
       solved-words s reads (b .head) (b .len) (b .numbers) whole is,
       (
         (
-          c .solve .ensures .1,
+          whole,
           solved-head s reads (b .head) (b .len) (b .numbers) whole is,
           solved-start s reads (b .head) (b .len) (b .numbers) whole is,
         ),

@@ -3,7 +3,7 @@ use mathlib.Core.Path.{_∙_}
 use native.Mathlib.Omega.{arith}
 use borrow.Author.Needs.{needs}
 use denote.Ref.{now}
-use lib.ListN.{length, set, length-set}
+use lib.ListN.{set, length-set}
 use Rattle.slices.proofs.Parts.{lent-length}
 use Rattle.sheet.proofs.Written.{none-written, solution-written}
 use Rattle.sheet.proofs.answering.write_block.Statement.{statement}

@@ -1,9 +1,8 @@
 -- `write_vectors` meets its contract: the part that `write_steps` is handed begins behind the starting vector.
-use mathlib.Core.Path.{sym, _∙_}
+use mathlib.Core.Path.{sym}
 use native.Mathlib.Omega.{arith}
 use borrow.Author.Needs.{needs}
 use denote.Ref.{now}
-use lib.ListN.{length, take, length-map}
 use lib.Seq.{length-take-le}
 use Rattle.slices.proofs.Parts.{lent-is, lent-length}
 use Rattle.equations.proofs.Vectors.{below-take, below-drop}

@@ -1,6 +1,6 @@
 -- `asking::is_opened` meets its contract: the tests of a readable record, one after the other. The equations lie in the cells
 -- because both limits were tested before.
-use mathlib.Core.Path.{_≡_, sym, ap, _∙_}
+use mathlib.Core.Path.{_≡_, sym, _∙_}
 use mathlib.Core.Bool.{true}
 use Prim.Native.Nat.{ℕ, _+_, _*_, _≤_}
 use native.Mathlib.Nat.{mul-le-mul}
@@ -12,7 +12,6 @@ use lib.ListN.{length}
 use lib.Seq.{length-take-le}
 use mir.Facts.{and-yes}
 use Rattle.equations.proofs.Truth.{true-of, of-true}
-use Rattle.ledger.specs.Ledger.{mostUnknowns}
 use Rattle.ledger.specs.Questions.{allowedUnknowns}
 use Rattle.sheet.proofs.Asked.{modulus-not, unknowns-not, equations-not, residues-decide}
 use Rattle.sheet.proofs.asking.is_opened.Statement.{statement}

@@ -1,5 +1,5 @@
 -- `asking::open_refusal` meets its contract: the tests that led to each `return` are the answers to the questions so far.
-use mathlib.Core.Path.{_≡_, sym, ap, _∙_}
+use mathlib.Core.Path.{sym, ap, _∙_}
 use native.Mathlib.Omega.{arith}
 use borrow.Author.Needs.{needs}
 use borrow.Author.Tests.{not-true, not-false}

@@ -1,15 +1,15 @@
 -- `shapes::is_claim` meets its contract: it looks at the head's number and kind, then at the entries.
-use mathlib.Core.Path.{_≡_, sym, ap, _∙_}
+use mathlib.Core.Path.{sym, ap, _∙_}
 use Prim.Native.Nat.{ℕ, _*_, _≤_}
 use native.Mathlib.Nat.{mul-le-mul}
 use native.Mathlib.Omega.{arith}
 use borrow.Author.Needs.{needs}
 use borrow.Author.Tests.{le-leb, lt-leb, eq-eqb, ne-eqb}
 use denote.Ref.{now}
-use lib.ListN.{getD, replicate}
+use lib.ListN.{replicate}
 use Rattle.slices.proofs.Parts.{lent-is}
-use Rattle.words.specs.Words.{kindOf, numberOf, haveKinds, headKind, entryKind}
-use Rattle.ledger.specs.Shapes.{numberAt, largestHead}
+use Rattle.words.specs.Words.{haveKinds, headKind, entryKind}
+use Rattle.ledger.specs.Shapes.{largestHead}
 use Rattle.ledger.proofs.Shapes.{claim-is}
 use Rattle.ledger.proofs.Claims.{claim-empty}
 use Rattle.sheet.proofs.shapes.is_claim.Statement.{statement}
@@ -30,9 +30,7 @@ cast-head : tie.Need-cast-head
 cast-head c = search needs
 
 returns-2 : tie.Need-returns-2
-returns-2 c =
-    let p = c .before .before .before .before .before .args in
-    rw (← c .before .number .ensures, lt-leb (c .before .number .result) largestHead (c .if2 .taken))
+returns-2 c = rw (← c .before .number .ensures, lt-leb (c .before .number .result) largestHead (c .if2 .taken))
 
 shared-slice-read-kind : tie.Need-shared-slice-read-kind
 shared-slice-read-kind c = search needs

@@ -1,12 +1,11 @@
 -- `shapes::is_opening` meets its contract: it looks at the number of the words, and at the kind of each.
-use mathlib.Core.Path.{sym, _∙_}
+use mathlib.Core.Path.{sym}
 use mathlib.Core.List.{[], _∷_}
 use native.Mathlib.Omega.{arith}
 use borrow.Author.Needs.{needs}
 use borrow.Author.Tests.{eq-eqb, ne-eqb}
 use denote.Ref.{now}
-use lib.ListN.{getD}
-use Rattle.words.specs.Words.{kindOf, modulusKind, unknownsKind}
+use Rattle.words.specs.Words.{modulusKind, unknownsKind}
 use Rattle.words.proofs.Words.{have-kinds-other, have-kinds-pair}
 use Rattle.sheet.proofs.shapes.is_opening.Statement.{statement}
 use Rattle.sheet.proofs.shapes.is_opening.Tie as tie
