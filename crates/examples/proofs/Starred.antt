@@ -1,20 +1,41 @@
 -- The starred examples of document 01, in the paper's order: each a theorem about the definitions that the contracts
--- cite. All but the last two are found by computing these definitions.
+-- cite; those with claims or with a strike also through the calls on a sheet. All but the last two are found by
+-- computing these definitions.
 use mathlib.Core.Bool.{true, false}
-use mathlib.Core.List.{List, [], _∷_}
+use mathlib.Core.List.{List, [], _∷_, _++_, flatten}
 use mathlib.Core.Option.{none, some}
-use mathlib.Core.Path.{_≡_, refl}
+use mathlib.Core.Path.{_≡_, refl, sym}
 use Prim.Native.Nat.{ℕ}
+use native.Mathlib.Omega.{arith}
+use lib.Dec.{T}
+use lib.ListN.{length, drop}
 use Rattle.residue.specs.Congruence.{leastOf, solutionsOf, congruenceOf}
 use Rattle.residue.specs.Euclid.{euclid}
 use Rattle.residue.specs.Gcd.{gcd}
 use Rattle.residue.specs.declared.congruence.Solved.the-variants.{NoSolution, Solutions}
 use Rattle.equations.specs.Equation.{Equation}
 use Rattle.equations.specs.Answer.{startOf, stepAt, stepsOf}
+use Rattle.equations.specs.Lines.{equationsOf}
 use Rattle.equations.specs.Multipliers.{refutes}
 use Rattle.equations.specs.Claim.{from, describes, passes}
 use Rattle.equations.specs.Promises.{ZeroEquation, ContradictoryEquation}
+use Rattle.equations.proofs.Truth.{true-of}
+use Rattle.equations.proofs.Vectors.{all-below}
+use Rattle.equations.proofs.Multipliers.{refutes-is}
 use Rattle.equations.proofs.Promises.{zero-equation, contradictory-equation}
+use Rattle.system.specs.Block.{blockOf}
+use Rattle.system.specs.Claims.{claimOf, vectorsOf}
+use Rattle.system.proofs.Promises.{answered}
+use Rattle.words.specs.Words.{word, wordsOf, haveKinds, modulusKind, unknownsKind, coefficientKind, rightKind, headKind, entryKind, multiplierKind}
+use Rattle.ledger.specs.Ledger.{opened}
+use Rattle.ledger.specs.Block.{answerWords}
+use Rattle.ledger.specs.Calls.{Call, opens, adds, strikes, answers}
+use Rattle.ledger.specs.Questions.{refusalOf}
+use Rattle.sheet.specs.declared.marking.Marked.{Marked}
+use Rattle.sheet.specs.declared.marking.Marked.the-variants.{Pass, Fail}
+use Rattle.sheet.specs.Record.{fresh, ledgerOf}
+use Rattle.sheet.specs.Calls.{turnOf, sheetAfter, bufferAfter, markedOf}
+use Rattle.sheet.specs.History.{after, sheetFrom}
 
 -- coefficients and a right side, as the paper writes an equation
 abbrev pub equation : List ℕ → ℕ → Equation
@@ -23,6 +44,25 @@ equation as′ b = record { coefficients = as′; right = b }
 -- "from .. , steps .."
 abbrev pub Answered : ℕ → ℕ → List Equation → List ℕ → List (List ℕ) → Type 0
 Answered m n es start steps = (startOf m n es ≡ some start) × (stepsOf m n es ≡ steps)
+
+-- the words of an opening and of an equation, as the calls get them
+abbrev pub opening : ℕ → ℕ → Call
+opening m n = opens (word modulusKind m ∷ word unknownsKind n ∷ [])
+
+abbrev pub adding : List ℕ → ℕ → Call
+adding as′ b = adds (wordsOf coefficientKind as′ ++ (word rightKind b ∷ []))
+
+-- head and entries of a claim or of an answer block
+abbrev pub block : ℕ → List ℕ → List ℕ
+block head xs = word headKind head ∷ wordsOf entryKind xs
+
+-- what a buffer that held `old` holds after an answer, asked for after the calls
+abbrev pub buffer : List Call → List ℕ → List ℕ
+buffer calls old = bufferAfter (ledgerOf (after calls)) (answers old) old
+
+-- what marking says after the calls
+abbrev pub marked : List Call → List ℕ → Marked
+marked calls claim = markedOf (ledgerOf (after calls)) claim
 
 -- "m=12: 4t=8 gives 2, spacing 3."
 pub four-t-is-eight : congruenceOf 4 8 12 ≡ Solutions 2 3
@@ -77,6 +117,24 @@ pub step-zero-two-fails : passes 4 2 oneTwoIsZero (from (0 ∷ 0 ∷ []) ((0 ∷
 unfolding passes describes
 step-zero-two-fails = refl
 
+-- so too through the calls: the answer, and both claims
+abbrev pub oneTwoIsZeroCalls : List Call
+oneTwoIsZeroCalls = opening 4 2 ∷ adding (1 ∷ 2 ∷ []) 0 ∷ []
+
+pub one-two-is-zero-answered : (x : ℕ)
+    → buffer oneTwoIsZeroCalls (x ∷ x ∷ x ∷ x ∷ x ∷ x ∷ x ∷ x ∷ []) ≡ block 3 (0 ∷ 0 ∷ 2 ∷ 1 ∷ 0 ∷ 2 ∷ []) ++ (x ∷ [])
+unfolding sheetFrom fresh turnOf sheetAfter ledgerOf bufferAfter refusalOf haveKinds equationsOf answerWords blockOf startOf
+    stepsOf stepAt flatten
+one-two-is-zero-answered x = refl
+
+pub step-two-three-marked : marked oneTwoIsZeroCalls (block 2 (0 ∷ 0 ∷ 2 ∷ 3 ∷ [])) ≡ Pass
+unfolding sheetFrom fresh turnOf sheetAfter ledgerOf markedOf refusalOf haveKinds equationsOf claimOf vectorsOf passes describes
+step-two-three-marked = refl
+
+pub step-zero-two-marked : marked oneTwoIsZeroCalls (block 2 (0 ∷ 0 ∷ 0 ∷ 2 ∷ [])) ≡ Fail
+unfolding sheetFrom fresh turnOf sheetAfter ledgerOf markedOf refusalOf haveKinds equationsOf claimOf vectorsOf passes describes
+step-zero-two-marked = refl
+
 -- "m=6: 2x=4, 3x=3: from 5, no step."
 abbrev pub twoAndThree : List Equation
 twoAndThree = equation (2 ∷ []) 4 ∷ equation (3 ∷ []) 3 ∷ []
@@ -96,6 +154,76 @@ with-zero-none = refl
 pub zero-one-three-serve : refutes 6 1 withZero (0 ∷ 1 ∷ 3 ∷ []) ≡ true
 unfolding refutes
 zero-one-three-serve = refl
+
+-- the same three answers through the calls, in one list: x=0 is added and struck again
+abbrev pub twoAndThreeCalls : List Call
+twoAndThreeCalls = opening 6 1 ∷ adding (2 ∷ []) 4 ∷ adding (3 ∷ []) 3 ∷ []
+
+abbrev pub withZeroCalls : List Call
+withZeroCalls = twoAndThreeCalls ++ (adding (1 ∷ []) 0 ∷ [])
+
+abbrev pub struckCalls : List Call
+struckCalls = withZeroCalls ++ (strikes ∷ [])
+
+pub two-and-three-answered : (x y z : ℕ) → buffer twoAndThreeCalls (x ∷ y ∷ z ∷ []) ≡ block 1 (5 ∷ []) ++ (z ∷ [])
+unfolding sheetFrom fresh turnOf sheetAfter ledgerOf bufferAfter refusalOf haveKinds equationsOf answerWords blockOf startOf
+    stepsOf stepAt flatten
+two-and-three-answered x y z = refl
+
+abbrev withZeroLines : List ℕ
+withZeroLines = 2 ∷ 4 ∷ 3 ∷ 3 ∷ 1 ∷ 0 ∷ []
+
+-- what stands behind the head 0 of the block
+abbrev withZeroMultipliers : List ℕ
+withZeroMultipliers = drop 1 (blockOf 6 1 withZero)
+
+with-zero-block : blockOf 6 1 withZero ≡ 0 ∷ withZeroMultipliers
+unfolding blockOf startOf
+with-zero-block = refl
+
+with-zero-refutes : T (refutes 6 1 withZero withZeroMultipliers)
+unfolding equationsOf
+with-zero-refutes =
+    answered 6 1 0 withZeroLines withZeroMultipliers
+    (record {
+      modulus = omega arith;
+      some = omega arith;
+      unknowns = omega arith;
+      whole = refl;
+      equations = omega arith;
+      residues = all-below 6 withZeroLines .0 tt;
+    })
+    (sym with-zero-block)
+    .multipliers refl
+
+-- a block of four words fits a buffer of four
+with-zero-fits : (x : ℕ) (ks : List ℕ) → length ks ≡ 3 → blockOf 6 1 withZero ≡ 0 ∷ ks
+    → buffer withZeroCalls (x ∷ x ∷ x ∷ x ∷ []) ≡ word headKind 0 ∷ wordsOf multiplierKind ks
+unfolding sheetFrom fresh turnOf sheetAfter ledgerOf bufferAfter refusalOf haveKinds equationsOf answerWords
+with-zero-fits x [] l e = absurd (omega arith)
+with-zero-fits x (a ∷ []) l e = absurd (omega arith)
+with-zero-fits x (a ∷ b ∷ []) l e = absurd (omega arith)
+with-zero-fits x (a ∷ b ∷ c ∷ []) l e = rw e refl
+with-zero-fits x (a ∷ b ∷ c ∷ d ∷ ks) l e = absurd (omega arith)
+
+-- "Add x=0: none": head 0, with multipliers that serve; so do 0 1 3
+pub with-zero-answered : (x : ℕ) → (ks : List ℕ) × (refutes 6 1 withZero ks ≡ true)
+    × (buffer withZeroCalls (x ∷ x ∷ x ∷ x ∷ []) ≡ word headKind 0 ∷ wordsOf multiplierKind ks)
+with-zero-answered x = (
+  withZeroMultipliers,
+  true-of _ with-zero-refutes,
+  with-zero-fits x withZeroMultipliers (refutes-is 6 1 withZero withZeroMultipliers .0 with-zero-refutes .one-each) with-zero-block,
+)
+
+pub with-zero-held : ledgerOf (after withZeroCalls) ≡ opened 6 1 withZero
+unfolding sheetFrom fresh turnOf sheetAfter ledgerOf refusalOf haveKinds equationsOf
+with-zero-held = refl
+
+-- "Strike: from 5 again."
+pub struck-answered : (x y z : ℕ) → buffer struckCalls (x ∷ y ∷ z ∷ []) ≡ block 1 (5 ∷ []) ++ (z ∷ [])
+unfolding sheetFrom fresh turnOf sheetAfter ledgerOf bufferAfter refusalOf haveKinds equationsOf answerWords blockOf startOf
+    stepsOf stepAt flatten
+struck-answered x y z = refl
 
 -- "0x=0 changes nothing": for every m, n and list, wherever it stands there
 pub zero-is-zero : ZeroEquation

@@ -1,0 +1,35 @@
+// For the tests only, and no part of the product: a sheet cannot be handed to Rust, so a script of direct calls is run here on one
+// sheet. It is proved that this is safe and ends, and nothing more: what the calls do, their own contracts say.
+//
+// The script has for each call an operation, a number of words, and these words. Each call writes its outcome, two words; behind
+// it an answer has its buffer. The result is the number of words written.
+pub mod acting;
+pub mod telling;
+
+use crate::acting::act;
+use crate::telling::State;
+use crate::telling::narrow;
+use crate::telling::wide;
+use sheet::Sheet;
+
+#[no_mangle]
+pub extern "C" fn harness_run(script: &[u32], out: &mut [u32]) -> i64 {
+    let mut rest = &script[..];
+    let mut state = State {
+        sheet: Sheet::fresh(),
+        at: 0,
+        block: 0,
+        wrote: 0,
+    };
+    while 1 < rest.len() {
+        let operation = rest[0];
+        let length = wide(rest[1]);
+        if rest.len() - 2 < length {
+            return -1;
+        }
+        state = act(state, operation, &rest[2..2 + length], out);
+        rest = &rest[2 + length..];
+    }
+    let written = narrow(state.at);
+    written as i64
+}

@@ -1,0 +1,512 @@
+//! Lists of direct calls on a sheet against the reference, which keeps a plain list and tries all vectors. Multipliers are left
+//! free, so they are compared by their property alone.
+mod exercises;
+mod harness;
+mod ledger;
+mod random;
+mod reference;
+
+use exercises::{chance, pick};
+use harness::{Act, Outcome, Reply, FILL, TAPE_BUFFER};
+use ledger::{Call, Ledger, Said, Solved};
+use random::Random;
+use reference::{Answer, System};
+use std::collections::BTreeSet;
+
+/// What a buffer of this length holds before an answer; the content differs from place to place.
+fn untouched(length: usize) -> Vec<u32> {
+    (0..length as u32).map(|place| 0xC0DE_0000 + place).collect()
+}
+
+fn open(m: u32, n: u32) -> Act {
+    Act::Open(ledger::opening(m, n))
+}
+
+fn add(numbers: &[u32]) -> Act {
+    Act::Add(ledger::equation(numbers))
+}
+
+fn answer(length: usize) -> Act {
+    Act::Answer(untouched(length))
+}
+
+fn mark(vectors: &[Vec<u32>]) -> Act {
+    Act::Mark(ledger::claim(vectors))
+}
+
+/// An opening, and a call for each equation.
+fn entering(system: &System) -> Vec<Act> {
+    [open(system.m, system.n as u32)].into_iter().chain(system.equations.iter().map(|equation| add(equation))).collect()
+}
+
+/// Why the reply is not that of a call which the reference answers so, where `before` is the ledger that it found.
+fn wrong_reply(act: &Act, reply: &Reply, said: &Said, before: &Ledger) -> Option<String> {
+    let old = match act {
+        Act::Answer(buffer) => buffer.clone(),
+        Act::AnswerFromTape(_) => vec![FILL; TAPE_BUFFER],
+        _ => vec![],
+    };
+    let expected = match (said, reply.outcome) {
+        (Said::Answered(solved), outcome) => return wrong_answer(solved, outcome, &old, &reply.buffer, before),
+        (Said::Opened { .. }, _) => Outcome::Holds(0),
+        (Said::Added(held) | Said::Struck(held), _) => Outcome::Holds(*held),
+        (Said::Passed, _) => Outcome::Pass,
+        (Said::Failed, _) => Outcome::Fail,
+        (Said::PassedOrFailed, Outcome::Pass) => Outcome::Pass,
+        (Said::PassedOrFailed, _) => Outcome::Fail,
+        (Said::Refused(number), _) => Outcome::Refused(*number),
+    };
+    let good = Reply { outcome: expected, buffer: old };
+    (*reply != good).then(|| format!("{reply:x?} is not {good:x?}"))
+}
+
+/// Why an accepted answer is wrong: its block, its length, or a buffer word past it.
+fn wrong_answer(solved: &Solved, outcome: Outcome, old: &[u32], buffer: &[u32], before: &Ledger) -> Option<String> {
+    let Ledger::Opened(system) = before else { unreachable!("question 4") };
+    match outcome {
+        Outcome::Wrote(length) if 0 < length && length <= old.len() => {
+            if buffer[length..] != old[length..] {
+                return Some(format!("{buffer:x?} was changed behind word {length}"));
+            }
+            ledger::wrong_block(system, &buffer[..length])
+        }
+        Outcome::Refused(8) if *solved == Solved::Unknown && old.len() < TAPE_BUFFER && buffer == old => None,
+        _ => Some(format!("{outcome:?} where {solved:?} is the answer")),
+    }
+}
+
+/// Which call was refused with which number.
+type Tally = BTreeSet<(&'static str, u32)>;
+
+/// Every call of the list does what the reference says. The refusals go to the tally.
+fn expect(acts: &[Act], seed: u64, tally: &mut Tally) -> Vec<Reply> {
+    let replies = harness::run(acts);
+    let (mut sheet, mut block) = (Ledger::Unopened, vec![]);
+    for (place, (act, reply)) in acts.iter().zip(&replies).enumerate() {
+        let call = match act {
+            Act::Open(words) => Call::Open(words.clone()),
+            Act::Add(words) => Call::Add(words.clone()),
+            Act::Strike => Call::Strike,
+            Act::Answer(buffer) => Call::Answer(buffer.len()),
+            Act::Mark(words) => Call::Mark(words.clone()),
+            Act::MarkBlock => Call::Mark(block.clone()),
+            Act::StrikeFromTape(word) => Call::StrikeFromTape(*word),
+            Act::AnswerFromTape(word) => Call::AnswerFromTape(*word),
+        };
+        let before = sheet.clone();
+        let said = sheet.run(&call);
+        if let Some(why) = wrong_reply(act, reply, &said, &before) {
+            panic!("call {place}, {act:x?}: {why} (seed {seed})\nledger: {before:?}\nscript: {acts:x?}");
+        }
+        if let Said::Refused(number) = said {
+            tally.insert((call.name(), number));
+        }
+        if let Outcome::Wrote(length) = reply.outcome {
+            block = reply.buffer[..length].to_vec();
+        }
+    }
+    replies
+}
+
+/// The outcomes alone of a list that does what the reference says.
+fn outcomes(acts: &[Act]) -> Vec<Outcome> {
+    expect(acts, 0, &mut Tally::new()).iter().map(|reply| reply.outcome).collect()
+}
+
+/// The outcome of the last call of such a list.
+fn last(acts: &[Act]) -> Outcome {
+    *outcomes(acts).last().unwrap()
+}
+
+/// A call on a sheet that reads as this ledger. A sheet that is being filled gets many equations.
+fn random_act(random: &mut Random, sheet: &Ledger, filling: bool) -> Act {
+    let unopened = System { m: 7, n: 2, equations: vec![] };
+    let system = if let Ledger::Opened(system) = sheet { system } else { &unopened };
+    let choice = random.below(if filling { 60 } else { 24 });
+    match choice {
+        0 => Act::Open(exercises::opening(random)),
+        1 if matches!(sheet, Ledger::Unopened) => Act::Open(exercises::opening(random)),
+        1..=3 => Act::Strike,
+        4 => Act::StrikeFromTape(tape_word(random, ledger::STRIKE)),
+        5 => Act::AnswerFromTape(tape_word(random, ledger::ANSWER)),
+        6..=9 => Act::Answer(untouched(buffer_length(random, system))),
+        10..=11 => Act::MarkBlock,
+        12..=17 => Act::Mark(exercises::claim(random, system)),
+        _ => Act::Add(exercises::equation(random, system)),
+    }
+}
+
+/// A strike or answer word; its number should be 0, and its kind was read by whoever picked the call.
+fn tape_word(random: &mut Random, kind: u32) -> u32 {
+    match random.below(4) {
+        0 => ledger::word(kind, pick(random, &[1, 1 << 16, 1 << 27, (1 << 28) - 1])),
+        1 => random.bits() as u32,
+        _ => ledger::word(kind, 0),
+    }
+}
+
+/// Exactly as long as the block, one word shorter, somewhat longer, or any length.
+fn buffer_length(random: &mut Random, system: &System) -> usize {
+    let exact = ledger::block_length(system).unwrap_or(TAPE_BUFFER);
+    match random.below(6) {
+        0 => exact - 1,
+        1 => random.below(TAPE_BUFFER as u64 + 3) as usize,
+        2 => exact + 1 + random.below(4) as usize,
+        _ => exact,
+    }
+}
+
+fn random_acts(random: &mut Random, count: usize) -> Vec<Act> {
+    let filling = chance(random, 4);
+    let (m, n) = exercises::small_shape(random);
+    let mut acts = if chance(random, 8) { vec![] } else { vec![open(m, n)] };
+    let mut sheet = Ledger::Unopened;
+    acts.iter().for_each(|_| drop(sheet.run(&Call::Open(ledger::opening(m, n)))));
+    for _ in 0..count {
+        let act = random_act(random, &sheet, filling);
+        match &act {
+            Act::Open(words) => drop(sheet.run(&Call::Open(words.clone()))),
+            Act::Add(words) => drop(sheet.run(&Call::Add(words.clone()))),
+            Act::Strike => drop(sheet.run(&Call::Strike)),
+            Act::StrikeFromTape(word) => drop(sheet.run(&Call::StrikeFromTape(*word))),
+            _ => {}
+        }
+        acts.push(act);
+    }
+    acts
+}
+
+/// "Questions, in order, and the number when the answer is no": every refusal that each direct call can give, and the strike and
+/// the answer from tape.
+const REFUSALS: [(&str, &[u32]); 7] = [
+    ("open", &[1, 2, 3]),
+    ("add", &[4, 1, 5, 6]),
+    ("strike", &[4, 7]),
+    ("answer", &[4, 8]),
+    ("mark", &[4, 1, 6]),
+    ("strike from tape", &[4, 1, 7]),
+    ("answer from tape", &[4, 1]),
+];
+
+#[test]
+fn random_lists_of_calls_do_what_the_paper_says_and_every_call_meets_its_refusals() {
+    let mut random = Random::new();
+    let mut tally = Tally::new();
+    for _ in 0..10_000 {
+        let count = 1 + random.below(60) as usize;
+        let acts = random_acts(&mut random, count);
+        expect(&acts, random.seed, &mut tally);
+    }
+    let all: Tally = REFUSALS.iter().flat_map(|(name, numbers)| numbers.iter().map(|&number| (*name, number))).collect();
+    assert_eq!(tally, all, "refusals seen, and refusals to be seen");
+}
+
+/// A sheet for which all vectors can be tried, with some equations.
+fn random_system(random: &mut Random) -> System {
+    let (m, n) = exercises::small_shape(random);
+    let mut system = System { m, n: n as usize, equations: vec![] };
+    for _ in 0..random.below(5) {
+        let mut sheet = Ledger::Opened(system.clone());
+        sheet.run(&Call::Add(exercises::equation(random, &system)));
+        let Ledger::Opened(grown) = sheet else { unreachable!() };
+        system = grown;
+    }
+    system
+}
+
+/// The same with its answer, which it has.
+fn random_solvable(random: &mut Random) -> (System, Answer) {
+    loop {
+        let system = random_system(random);
+        if let Solved::Vectors(answer) = ledger::solve(&system) {
+            return (system, answer);
+        }
+    }
+}
+
+fn random_unsolvable(random: &mut Random) -> System {
+    loop {
+        let system = random_system(random);
+        if ledger::solve(&system) == Solved::Nothing {
+            return system;
+        }
+    }
+}
+
+#[test]
+fn claims_that_are_right_in_another_form_pass() {
+    let mut random = Random::new();
+    let mut longest = 0;
+    for _ in 0..2_000 {
+        let (system, answer) = random_solvable(&mut random);
+        let claim = exercises::right_claim(&mut random, system.m, &answer);
+        longest = longest.max(claim.len());
+        let acts = [entering(&system), vec![mark(&claim)]].concat();
+        assert_eq!(last(&acts), Outcome::Pass, "{system:?}: {claim:?} (seed {})", random.seed);
+    }
+    assert!(longest > 8, "{longest}");
+}
+
+#[test]
+fn a_claim_may_have_more_steps_than_unknowns_up_to_head_17() {
+    let mut random = Random::new();
+    for _ in 0..100 {
+        let (system, answer) = random_solvable(&mut random);
+        let mut claim = ledger::vectors_of(&answer);
+        claim.resize(17, vec![0; system.n]);
+        let mut longer = claim.clone();
+        longer.push(vec![0; system.n]);
+        let acts = [entering(&system), vec![mark(&claim), mark(&longer)]].concat();
+        let found = outcomes(&acts);
+        assert_eq!(found[found.len() - 2..], [Outcome::Pass, Outcome::Refused(1)], "{system:?} (seed {})", random.seed);
+    }
+}
+
+#[test]
+fn a_claim_that_is_one_step_short_fails_unless_the_others_lead_there() {
+    let mut random = Random::new();
+    let (mut passed, mut failed) = (0, 0);
+    while failed < 500 {
+        let (system, answer) = random_solvable(&mut random);
+        for place in 0..answer.steps.len() {
+            let mut claim = ledger::vectors_of(&answer);
+            claim.remove(1 + place);
+            match last(&[entering(&system), vec![mark(&claim)]].concat()) {
+                Outcome::Pass => passed += 1,
+                outcome => {
+                    assert_eq!(outcome, Outcome::Fail, "{system:?}: {claim:?} (seed {})", random.seed);
+                    failed += 1;
+                }
+            }
+        }
+    }
+    assert!(passed > 0, "{passed} passed, {failed} failed");
+    // twice 2 1 is 0 2, while 0 2 leads to nothing with a 2 in front
+    let acts = [open(4, 2), add(&[1, 2, 0])];
+    let marks = [mark(&[vec![0, 0], vec![2, 1]]), mark(&[vec![0, 0], vec![0, 2]])];
+    assert_eq!(outcomes(&[&acts[..], &marks].concat())[2..], [Outcome::Pass, Outcome::Fail]);
+}
+
+#[test]
+fn claims_with_one_entry_changed_are_marked_by_what_they_then_describe() {
+    let mut random = Random::new();
+    let (mut passed, mut failed) = (0, 0);
+    for _ in 0..2_000 {
+        let (system, answer) = random_solvable(&mut random);
+        let right = exercises::right_claim(&mut random, system.m, &answer);
+        let claim = exercises::changed_claim(&mut random, system.m, &right);
+        match last(&[entering(&system), vec![mark(&claim)]].concat()) {
+            Outcome::Pass => passed += 1,
+            Outcome::Fail => failed += 1,
+            other => panic!("{system:?}: {claim:?}: {other:?} (seed {})", random.seed),
+        }
+    }
+    assert!(passed > 100 && failed > 100, "{passed} passed, {failed} failed");
+}
+
+#[test]
+fn without_solution_head_0_alone_passes() {
+    let mut random = Random::new();
+    for _ in 0..200 {
+        let system = random_unsolvable(&mut random);
+        let other = loop {
+            let claim = exercises::any_claim(&mut random, system.m, system.n);
+            if !claim.is_empty() {
+                break claim;
+            }
+        };
+        let found = outcomes(&[entering(&system), vec![mark(&[]), mark(&other)]].concat());
+        let expected = [Outcome::Pass, if other.len() > 17 { Outcome::Refused(1) } else { Outcome::Fail }];
+        assert_eq!(found[found.len() - 2..], expected, "{system:?}: {other:?} (seed {})", random.seed);
+    }
+    let (system, _) = random_solvable(&mut random);
+    assert_eq!(last(&[entering(&system), vec![mark(&[])]].concat()), Outcome::Fail, "{system:?}");
+}
+
+#[test]
+fn misshapen_claims_and_equations_are_refused_with_1() {
+    let word = ledger::word;
+    let head = |number| word(ledger::HEAD, number);
+    let entry = |number| word(ledger::ENTRY, number);
+    let claims: [Vec<u32>; 12] = [
+        vec![],
+        vec![entry(1)],
+        vec![head(1), entry(0)],
+        vec![head(1), entry(0), entry(0), entry(0)],
+        vec![head(0), entry(0)],
+        vec![head(0), entry(0), entry(0)],
+        vec![head(2), entry(0), entry(0)],
+        vec![head(1), entry(0), word(ledger::MULTIPLIER, 0)],
+        vec![entry(1), entry(0), entry(0)],
+        vec![head(18); 1],
+        [vec![head(18)], vec![entry(0); 36]].concat(),
+        [vec![head((1 << 28) - 1)], vec![entry(0); 34]].concat(),
+    ];
+    for words in claims {
+        assert_eq!(last(&[open(5, 2), Act::Mark(words.clone())]), Outcome::Refused(1), "{words:x?}");
+    }
+    let (a, b) = (word(ledger::COEFFICIENT, 1), word(ledger::RIGHT, 1));
+    let equations: [Vec<u32>; 8] =
+        [vec![], vec![a], vec![b], vec![a, b], vec![a, a, a], vec![a, b, b], vec![a, a, a, b], vec![a, a, b, b]];
+    for words in equations {
+        assert_eq!(last(&[open(5, 2), Act::Add(words.clone())]), Outcome::Refused(1), "{words:x?}");
+    }
+    let (m, n) = (word(ledger::MODULUS, 5), word(ledger::UNKNOWNS, 2));
+    for words in [vec![], vec![m], vec![n, m], vec![m, n, n], vec![m, m], vec![n, n]] {
+        assert_eq!(last(&[Act::Open(words.clone())]), Outcome::Refused(1), "{words:x?}");
+    }
+}
+
+#[test]
+fn numbers_are_compared_with_all_their_28_bits() {
+    for number in [5, 6, 65_536, 65_537, 1 << 24, (1 << 27) + 1, (1 << 28) - 1] {
+        assert_eq!(last(&[open(5, 1), add(&[number, 1])]), Outcome::Refused(6), "{number}");
+        assert_eq!(last(&[open(5, 1), add(&[1, number])]), Outcome::Refused(6), "{number}");
+        assert_eq!(last(&[open(5, 1), mark(&[vec![number]])]), Outcome::Refused(6), "{number}");
+        assert_eq!(last(&[open(5, 1), mark(&[vec![0], vec![number]])]), Outcome::Refused(6), "{number}");
+    }
+    for number in [0, 1, 65_536, 65_538, 1 << 24, (1 << 27) + 2, (1 << 28) - 1] {
+        assert_eq!(last(&[open(number, 1)]), Outcome::Refused(2), "{number}");
+    }
+    for number in [0, 17, 32, 257, 65_537, (1 << 27) + 1, (1 << 28) - 1] {
+        assert_eq!(last(&[open(5, number)]), Outcome::Refused(3), "{number}");
+        assert_eq!(last(&[open(1, number)]), Outcome::Refused(2), "{number}");
+    }
+}
+
+#[test]
+fn a_full_sheet_refuses_with_5_after_shape_and_before_numbers() {
+    let mut acts = vec![open(3, 1)];
+    acts.extend((0..16).map(|_| add(&[1, 2])));
+    assert_eq!(last(&acts), Outcome::Holds(16));
+    for (words, number) in [
+        (ledger::equation(&[1, 2]), 5),
+        (ledger::equation(&[3, 2]), 5),
+        (ledger::equation(&[1, 3]), 5),
+        (ledger::equation(&[1, 1, 2]), 1),
+        (ledger::equation(&[2]), 1),
+        (vec![], 1),
+        (vec![ledger::word(ledger::COEFFICIENT, 3), ledger::word(ledger::ENTRY, 3)], 1),
+    ] {
+        let more = [acts.clone(), vec![Act::Add(words.clone()), answer(3), Act::Strike, add(&[1, 2]), answer(3)]].concat();
+        let found = outcomes(&more);
+        let expected = [Outcome::Refused(number), Outcome::Wrote(2), Outcome::Holds(15), Outcome::Holds(16), Outcome::Wrote(2)];
+        assert_eq!(found[17..], expected, "{words:x?}");
+    }
+}
+
+#[test]
+fn a_refused_opening_keeps_the_sheet_and_an_accepted_one_empties_it() {
+    let mut random = Random::new();
+    let refused = [ledger::opening(1, 1), ledger::opening(65_536, 1), ledger::opening(2, 0), ledger::opening(2, 17), vec![]];
+    for _ in 0..100 {
+        let system = random_system(&mut random);
+        let length = ledger::block_length(&system).unwrap();
+        for words in &refused {
+            let acts = [entering(&system), vec![answer(length), Act::Open(words.clone()), answer(length)]].concat();
+            let replies = expect(&acts, random.seed, &mut Tally::new());
+            let count = replies.len();
+            assert_eq!(replies[count - 1], replies[count - 3], "{system:?}, {words:x?} (seed {})", random.seed);
+        }
+        let acts = [entering(&system), vec![open(7, 2), answer(7), Act::Strike]].concat();
+        let found = outcomes(&acts);
+        let expected = [Outcome::Holds(0), Outcome::Wrote(7), Outcome::Refused(7)];
+        assert_eq!(found[found.len() - 3..], expected, "{system:?} (seed {})", random.seed);
+    }
+}
+
+#[test]
+fn strikes_bring_back_every_earlier_answer() {
+    let mut random = Random::new();
+    for _ in 0..150 {
+        let (m, n) = exercises::small_shape(&mut random);
+        let mut system = System { m, n: n as usize, equations: vec![] };
+        let mut acts = vec![open(m, n), answer(TAPE_BUFFER)];
+        for _ in 0..16 {
+            let words = (0..=n).map(|_| random.below(m as u64) as u32).collect::<Vec<u32>>();
+            acts.extend([add(&words), answer(TAPE_BUFFER)]);
+            system.equations.push(words);
+        }
+        for _ in 0..16 {
+            acts.extend([Act::Strike, answer(TAPE_BUFFER)]);
+        }
+        acts.push(Act::Strike);
+        let replies = expect(&acts, random.seed, &mut Tally::new());
+        for held in 0..16 {
+            let (up, down) = (&replies[2 * held + 1], &replies[65 - 2 * held]);
+            assert_eq!(up, down, "{held} equations of {system:?} (seed {})", random.seed);
+        }
+        assert_eq!(replies[66].outcome, Outcome::Refused(7));
+    }
+}
+
+#[test]
+fn the_block_that_an_answer_wrote_passes_where_there_is_a_solution() {
+    let mut random = Random::new();
+    for _ in 0..300 {
+        let (system, found) = random_solvable(&mut random);
+        let length = 1 + (1 + found.steps.len()) * system.n;
+        for extra in [0, 1, 5] {
+            let acts = [entering(&system), vec![answer(length + extra), Act::MarkBlock]].concat();
+            let outcomes = outcomes(&acts);
+            let expected = [Outcome::Wrote(length), Outcome::Pass];
+            assert_eq!(outcomes[outcomes.len() - 2..], expected, "{system:?} (seed {})", random.seed);
+        }
+    }
+}
+
+#[test]
+fn the_block_of_a_sheet_without_solution_is_no_claim() {
+    let mut random = Random::new();
+    for _ in 0..200 {
+        let system = random_unsolvable(&mut random);
+        let length = 1 + system.equations.len();
+        let outcomes = outcomes(&[entering(&system), vec![answer(length), Act::MarkBlock, mark(&[])]].concat());
+        let expected = [Outcome::Wrote(length), Outcome::Refused(1), Outcome::Pass];
+        assert_eq!(outcomes[outcomes.len() - 3..], expected, "{system:?} (seed {})", random.seed);
+    }
+}
+
+#[test]
+fn a_buffer_is_long_enough_exactly_when_the_block_fits() {
+    let mut random = Random::new();
+    for _ in 0..60 {
+        let system = random_system(&mut random);
+        let length = ledger::block_length(&system).unwrap();
+        let mut acts = entering(&system);
+        acts.extend((0..length + 4).map(answer));
+        let found = outcomes(&acts);
+        for (given, outcome) in found[1 + system.equations.len()..].iter().enumerate() {
+            let expected = if given < length { Outcome::Refused(8) } else { Outcome::Wrote(length) };
+            assert_eq!(*outcome, expected, "{system:?} into {given} words (seed {})", random.seed);
+        }
+    }
+}
+
+#[test]
+fn full_size_sheets_are_answered_soundly_and_their_own_block_passes() {
+    let mut random = Random::new();
+    let (mut solvable, mut unsolvable) = (0, 0);
+    for round in 0..120 {
+        let m = pick(&mut random, &[2, 3, 4, 12, 60, 30_030, 32_768, 65_521, 65_535]);
+        let n = pick(&mut random, &[5, 8, 15, 16]);
+        let solution: Vec<u32> = (0..n).map(|_| random.below(m as u64) as u32).collect();
+        let mut system = System { m, n: n as usize, equations: vec![] };
+        for _ in 0..random.below(17) {
+            let mut equation: Vec<u32> =
+                (0..n).map(|_| if chance(&mut random, 2) { 0 } else { random.below(m as u64) as u32 }).collect();
+            let right: u64 = equation.iter().zip(&solution).map(|(&a, &x)| a as u64 * x as u64).sum();
+            equation.push(if round % 3 == 0 { random.below(m as u64) as u32 } else { (right % m as u64) as u32 });
+            system.equations.push(equation);
+        }
+        let acts = [entering(&system), vec![answer(TAPE_BUFFER), Act::MarkBlock, mark(&[])]].concat();
+        let replies = expect(&acts, random.seed, &mut Tally::new());
+        let outcomes: Vec<Outcome> = replies.iter().rev().take(2).map(|reply| reply.outcome).collect();
+        match outcomes[..] {
+            [Outcome::Fail, Outcome::Pass] => solvable += 1,
+            [Outcome::Pass, Outcome::Refused(1)] if round % 3 == 0 => unsolvable += 1,
+            _ => panic!("{system:?}: {outcomes:?} (seed {})", random.seed),
+        }
+    }
+    assert!(solvable > 60 && unsolvable > 10, "{solvable} solvable, {unsolvable} unsolvable");
+}

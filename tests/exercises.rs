@@ -1,0 +1,176 @@
+//! Random words for the calls on a sheet: openings, equations and claims, most of them good, the others spoiled in one place.
+#![allow(dead_code)]
+
+use crate::ledger::{self, Solved};
+use crate::random::Random;
+use crate::reference::{self, Answer, System};
+
+pub fn pick<T: Copy>(random: &mut Random, from: &[T]) -> T {
+    from[random.below(from.len() as u64) as usize]
+}
+
+pub fn chance(random: &mut Random, one_in: u64) -> bool {
+    random.below(one_in) == 0
+}
+
+/// A modulus and a number of unknowns for which all vectors can be tried, few in most cases.
+pub fn small_shape(random: &mut Random) -> (u32, u32) {
+    let most = if chance(random, 20) { ledger::MOST_VECTORS } else { 150 };
+    loop {
+        let n = 1 + if chance(random, 4) { random.below(7) } else { random.below(3) } as u32;
+        let m = 2 + if n == 1 && chance(random, 4) { random.below(5_000) } else { random.below(14) } as u32;
+        if (m as u128).pow(n) <= most {
+            return (m, n);
+        }
+    }
+}
+
+/// The words of an opening, most of them for a small sheet.
+pub fn opening(random: &mut Random) -> Vec<u32> {
+    let (m, n) = small_shape(random);
+    let words = match random.below(16) {
+        0 => ledger::opening(pick(random, &[0, 1, 65_536, 65_537, 65_538, 1 << 27, (1 << 28) - 1]), n),
+        1 => ledger::opening(m, pick(random, &[0, 17, 18, 257, 65_537, 1 << 27, (1 << 28) - 1])),
+        2 => ledger::opening(pick(random, &[2, 65_535]), pick(random, &[1, 16])),
+        _ => ledger::opening(m, n),
+    };
+    sometimes_spoiled(random, words, m)
+}
+
+/// The words of an equation: any numbers below m, few of them or none that are not 0, or an earlier equation multiplied.
+pub fn equation(random: &mut Random, system: &System) -> Vec<u32> {
+    let m = system.m as u64;
+    let sparse = chance(random, 2);
+    let mut numbers: Vec<u32> =
+        (0..=system.n).map(|_| if sparse && chance(random, 2) { 0 } else { random.below(m) as u32 }).collect();
+    if !system.equations.is_empty() && chance(random, 2) {
+        let factor = random.below(m);
+        let earlier = &system.equations[random.below(system.equations.len() as u64) as usize];
+        numbers = earlier.iter().map(|&x| (x as u64 * factor % m) as u32).collect();
+    }
+    let words = ledger::equation(&numbers);
+    sometimes_spoiled(random, words, system.m)
+}
+
+/// v + t·w mod m
+pub fn plus(m: u32, v: &[u32], t: u64, w: &[u32]) -> Vec<u32> {
+    v.iter().zip(w).map(|(&x, &y)| ((x as u64 + t * y as u64) % m as u64) as u32).collect()
+}
+
+/// A residue that has an inverse mod m.
+pub fn unit(random: &mut Random, m: u32) -> u64 {
+    loop {
+        let unit = 1 + random.below(m as u64 - 1);
+        if reference::divisor_by_halving(unit as u32, m) == 1 {
+            return unit;
+        }
+    }
+}
+
+/// A start and steps that describe the same vectors as the answer: another start, the steps in another order, each multiplied
+/// by a unit, others added to it, and superfluous ones between them.
+pub fn right_claim(random: &mut Random, m: u32, answer: &Answer) -> Vec<Vec<u32>> {
+    let mut steps = answer.steps.clone();
+    for i in (1..steps.len()).rev() {
+        steps.swap(i, random.below(i as u64 + 1) as usize);
+    }
+    for i in 0..steps.len() {
+        let factor = unit(random, m) - 1;
+        steps[i] = plus(m, &steps[i], factor, &steps[i]);
+        for j in (0..steps.len()).filter(|&j| j != i) {
+            steps[i] = plus(m, &steps[i], random.below(m as u64), &steps[j]);
+        }
+    }
+    let start = steps.iter().fold(answer.start.clone(), |v, step| plus(m, &v, random.below(m as u64), step));
+    while steps.len() < 16 && chance(random, 2) {
+        let mut superfluous = vec![0; start.len()];
+        for step in &steps {
+            superfluous = plus(m, &superfluous, random.below(m as u64), step);
+        }
+        steps.insert(random.below(steps.len() as u64 + 1) as usize, superfluous);
+    }
+    [vec![start], steps].concat()
+}
+
+/// A claim with one step less, one entry changed, or one step multiplied.
+pub fn changed_claim(random: &mut Random, m: u32, vectors: &[Vec<u32>]) -> Vec<Vec<u32>> {
+    let mut vectors = vectors.to_vec();
+    let place = random.below(vectors.len() as u64) as usize;
+    match random.below(3) {
+        0 => {
+            vectors.remove(place);
+        }
+        1 => {
+            let entry = random.below(vectors[place].len() as u64) as usize;
+            vectors[place][entry] = random.below(m as u64) as u32;
+        }
+        _ => {
+            let (zeros, factor) = (vec![0; vectors[place].len()], random.below(m as u64));
+            vectors[place] = plus(m, &zeros, factor, &vectors[place]);
+        }
+    }
+    vectors
+}
+
+/// Any vectors at all.
+pub fn any_claim(random: &mut Random, m: u32, n: usize) -> Vec<Vec<u32>> {
+    let count = if chance(random, 8) { random.below(18) } else { random.below(4) };
+    (0..count).map(|_| (0..n).map(|_| random.below(m as u64) as u32).collect()).collect()
+}
+
+/// The words of a claim about the equations: right in another form, nearly right, "no solution", or any.
+pub fn claim(random: &mut Random, system: &System) -> Vec<u32> {
+    let (m, n) = (system.m, system.n);
+    let vectors = match (ledger::solve(system), random.below(8)) {
+        (_, 0) => any_claim(random, m, n),
+        (_, 1) => vec![],
+        (_, 2) => (0..18).map(|_| vec![0; n]).collect(),
+        (Solved::Vectors(answer), choice) => {
+            let right = right_claim(random, m, &answer);
+            if choice < 5 {
+                right
+            } else {
+                changed_claim(random, m, &right)
+            }
+        }
+        (_, choice) => {
+            if choice < 5 {
+                vec![]
+            } else {
+                any_claim(random, m, n)
+            }
+        }
+    };
+    let words = ledger::claim(&vectors);
+    sometimes_spoiled(random, words, m)
+}
+
+/// The words as they are, or now and then spoiled.
+fn sometimes_spoiled(random: &mut Random, words: Vec<u32>, m: u32) -> Vec<u32> {
+    if chance(random, 6) {
+        spoiled(random, words, m)
+    } else {
+        words
+    }
+}
+
+/// Words with one thing changed: the length, a kind, a number, or the order.
+pub fn spoiled(random: &mut Random, mut words: Vec<u32>, m: u32) -> Vec<u32> {
+    let count = words.len() as u64;
+    let place = random.below(count.max(1)) as usize;
+    if words.is_empty() {
+        return vec![random.bits() as u32];
+    }
+    match random.below(9) {
+        0 => words.truncate(place),
+        1 => words.push(words[place]),
+        2 => words.insert(0, words[place]),
+        3 => words[place] = ledger::word(random.below(16) as u32, ledger::number(words[place])),
+        4 => words[place] = ledger::word(ledger::kind(words[place]), m),
+        5 => words[place] = ledger::word(ledger::kind(words[place]), m - 1),
+        6 => words[place] = (words[place] & 0xF000_FFFF) + pick(random, &[1 << 16, 1 << 20, 1 << 27]),
+        7 => words[place] = random.bits() as u32,
+        _ => words.swap(0, place),
+    }
+    words
+}

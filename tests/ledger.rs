@@ -1,0 +1,298 @@
+//! The paper's words, ledger, questions and marking once more in plain Rust. It keeps a plain list of equations and tries
+//! all vectors and all combinations; where those are too many it says so, and the tests then look at what can be seen without.
+#![allow(dead_code)]
+
+use crate::reference::{self, Answer, System};
+use std::collections::BTreeSet;
+
+/// "A word has 32 bits: the top 4 are its kind, the low 28 its number."
+pub fn word(kind: u32, number: u32) -> u32 {
+    assert!(kind < 16 && number < 1 << 28);
+    (kind << 28) + number
+}
+
+pub fn kind(word: u32) -> u32 {
+    word >> 28
+}
+
+pub fn number(word: u32) -> u32 {
+    word & 0x0FFF_FFFF
+}
+
+/// "Kinds: 1 modulus; 2 unknowns; 3 coefficient; 4 right side; 5 head; 6 vector entry; 7 multiplier; 8 strike; 9 answer."
+pub const MODULUS: u32 = 1;
+pub const UNKNOWNS: u32 = 2;
+pub const COEFFICIENT: u32 = 3;
+pub const RIGHT: u32 = 4;
+pub const HEAD: u32 = 5;
+pub const ENTRY: u32 = 6;
+pub const MULTIPLIER: u32 = 7;
+pub const STRIKE: u32 = 8;
+pub const ANSWER: u32 = 9;
+
+/// "Open: kinds 1, 2."
+pub fn opening(m: u32, n: u32) -> Vec<u32> {
+    vec![word(MODULUS, m), word(UNKNOWNS, n)]
+}
+
+/// "Equation: n of kind 3, one of kind 4."
+pub fn equation(numbers: &[u32]) -> Vec<u32> {
+    let (right, coefficients) = numbers.split_last().expect("an equation has a right side");
+    coefficients.iter().map(|&a| word(COEFFICIENT, a)).chain([word(RIGHT, *right)]).collect()
+}
+
+/// "Claim: a head, then head number times n entries": these vectors, or none of them.
+pub fn claim(vectors: &[Vec<u32>]) -> Vec<u32> {
+    [word(HEAD, vectors.len() as u32)].into_iter().chain(vectors.iter().flatten().map(|&x| word(ENTRY, x))).collect()
+}
+
+/// The vectors of an answer: the start, then the steps.
+pub fn vectors_of(answer: &Answer) -> Vec<Vec<u32>> {
+    [&answer.start].into_iter().chain(&answer.steps).cloned().collect()
+}
+
+fn kinds(words: &[u32]) -> Vec<u32> {
+    words.iter().map(|&w| kind(w)).collect()
+}
+
+fn numbers(words: &[u32]) -> Vec<u32> {
+    words.iter().map(|&w| number(w)).collect()
+}
+
+fn is_opening(words: &[u32]) -> bool {
+    kinds(words) == [MODULUS, UNKNOWNS]
+}
+
+fn is_equation(n: usize, words: &[u32]) -> bool {
+    kinds(words) == [vec![COEFFICIENT; n], vec![RIGHT]].concat()
+}
+
+/// "0 claims no solution and describes no vector, 1..17 is a starting vector with its steps."
+fn is_claim(n: usize, words: &[u32]) -> bool {
+    match words.first() {
+        Some(&head) if kind(head) == HEAD && number(head) <= 17 => kinds(&words[1..]) == vec![ENTRY; number(head) as usize * n],
+        _ => false,
+    }
+}
+
+/// A call with its arguments other than the sheet: made directly, or from tape. An answer has the length of its buffer.
+#[derive(Clone, Debug, PartialEq)]
+pub enum Call {
+    Open(Vec<u32>),
+    Add(Vec<u32>),
+    Strike,
+    Answer(usize),
+    Mark(Vec<u32>),
+    StrikeFromTape(u32),
+    AnswerFromTape(u32),
+    Meaningless(u32),
+}
+
+impl Call {
+    pub const NAMES: [&'static str; 8] =
+        ["open", "add", "strike", "answer", "mark", "strike from tape", "answer from tape", "meaningless word"];
+
+    pub fn name(&self) -> &'static str {
+        match self {
+            Call::Open(_) => "open",
+            Call::Add(_) => "add",
+            Call::Strike => "strike",
+            Call::Answer(_) => "answer",
+            Call::Mark(_) => "mark",
+            Call::StrikeFromTape(_) => "strike from tape",
+            Call::AnswerFromTape(_) => "answer from tape",
+            Call::Meaningless(_) => "meaningless word",
+        }
+    }
+}
+
+/// What the reference knows of an answer. "Which multipliers, is left free."
+#[derive(Clone, Debug, PartialEq)]
+pub enum Solved {
+    Vectors(Answer),
+    Nothing,
+    /// There are too many vectors to try.
+    Unknown,
+}
+
+/// What a call says.
+#[derive(Clone, Debug, PartialEq)]
+pub enum Said {
+    Opened {
+        m: u32,
+        n: usize,
+    },
+    Added(usize),
+    Struck(usize),
+    Answered(Solved),
+    Passed,
+    Failed,
+    /// There are too many vectors to try.
+    PassedOrFailed,
+    Refused(u32),
+}
+
+/// So many vectors are tried.
+pub const MOST_VECTORS: u128 = 5_000;
+
+/// Whether all vectors of n residues can be tried.
+pub fn can_try(m: u32, n: usize) -> bool {
+    (m as u128).checked_pow(n as u32).is_some_and(|count| count <= MOST_VECTORS)
+}
+
+/// The vectors that solve the equations.
+pub fn solutions(system: &System) -> BTreeSet<Vec<u32>> {
+    reference::vectors(system.m, system.n).filter(|v| system.solved_by(v)).collect()
+}
+
+/// "A claim describes its start plus all combinations of its steps, coefficients 0..m-1": each step is taken again and again,
+/// until that leads to no other vector; m times a step leads back.
+pub fn described(m: u32, vectors: &[Vec<u32>]) -> BTreeSet<Vec<u32>> {
+    let mut all: BTreeSet<Vec<u32>> = vectors.iter().take(1).cloned().collect();
+    for step in vectors.iter().skip(1) {
+        let mut from: Vec<Vec<u32>> = all.iter().cloned().collect();
+        while let Some(v) = from.pop() {
+            let next: Vec<u32> = v.iter().zip(step).map(|(&x, &y)| ((x as u64 + y as u64) % m as u64) as u32).collect();
+            if all.insert(next.clone()) {
+                from.push(next);
+            }
+        }
+    }
+    all
+}
+
+/// 'The ledger is "unopened", or m, n and a list of equations.'
+#[derive(Clone, Debug)]
+pub enum Ledger {
+    Unopened,
+    Opened(System),
+}
+
+impl Ledger {
+    /// The call's answer, and in the ledger what an accepted call enters.
+    pub fn run(&mut self, call: &Call) -> Said {
+        if let Some(number) = self.refusal(call) {
+            return Said::Refused(number);
+        }
+        match (call, &mut *self) {
+            (Call::Open(words), _) => {
+                let (m, n) = (number(words[0]), number(words[1]) as usize);
+                *self = Ledger::Opened(System { m, n, equations: vec![] });
+                Said::Opened { m, n }
+            }
+            (_, Ledger::Unopened) => unreachable!("question 4"),
+            (Call::Add(words), Ledger::Opened(system)) => {
+                system.equations.push(numbers(words));
+                Said::Added(system.equations.len())
+            }
+            (Call::Strike | Call::StrikeFromTape(_), Ledger::Opened(system)) => {
+                system.equations.pop();
+                Said::Struck(system.equations.len())
+            }
+            (Call::Answer(_) | Call::AnswerFromTape(_), Ledger::Opened(system)) => Said::Answered(solve(system)),
+            (Call::Mark(words), Ledger::Opened(system)) => mark(system, words),
+            (Call::Meaningless(_), _) => unreachable!("refused with 1"),
+        }
+    }
+
+    /// The number of the question that turns the call away. The buffer of an answer that is unknown is taken to be long enough.
+    fn refusal(&self, call: &Call) -> Option<u32> {
+        let questions: &[u32] = match call {
+            Call::Open(_) => &[1, 2, 3],
+            Call::Add(_) => &[4, 1, 5, 6],
+            Call::Strike => &[4, 7],
+            Call::StrikeFromTape(_) => &[4, 1, 7],
+            Call::Answer(_) => &[4, 8],
+            Call::AnswerFromTape(_) => &[4, 1],
+            Call::Mark(_) => &[4, 1, 6],
+            Call::Meaningless(_) => &[1],
+        };
+        questions.iter().copied().find(|&question| !self.yes(question, call))
+    }
+
+    /// The answer to one question; those before it were answered with yes.
+    fn yes(&self, question: u32, call: &Call) -> bool {
+        let system = || match self {
+            Ledger::Opened(system) => system,
+            Ledger::Unopened => unreachable!("question 4 comes first"),
+        };
+        match (question, call) {
+            (1, Call::Open(words)) => is_opening(words),
+            (2, Call::Open(words)) => (2..=65_535).contains(&number(words[0])),
+            (3, Call::Open(words)) => (1..=16).contains(&number(words[1])),
+            (4, _) => matches!(self, Ledger::Opened(_)),
+            (1, Call::Add(words)) => is_equation(system().n, words),
+            (5, Call::Add(_)) => system().equations.len() < 16,
+            (6, Call::Add(words)) => words.iter().all(|&w| number(w) < system().m),
+            (1, Call::StrikeFromTape(word) | Call::AnswerFromTape(word)) => number(*word) == 0,
+            (7, Call::Strike | Call::StrikeFromTape(_)) => !system().equations.is_empty(),
+            (8, Call::Answer(length)) => block_length(system()).is_none_or(|block| block <= *length),
+            (1, Call::Mark(words)) => is_claim(system().n, words),
+            (6, Call::Mark(words)) => words[1..].iter().all(|&w| number(w) < system().m),
+            (1, Call::Meaningless(_)) => false,
+            _ => unreachable!("{call:?} has no question {question}"),
+        }
+    }
+}
+
+/// The answer by trying all vectors.
+pub fn solve(system: &System) -> Solved {
+    if !can_try(system.m, system.n) {
+        return Solved::Unknown;
+    }
+    match reference::answer(system) {
+        Some(answer) => Solved::Vectors(answer),
+        None => Solved::Nothing,
+    }
+}
+
+/// How many words the answer block has, where the answer is known.
+pub fn block_length(system: &System) -> Option<usize> {
+    match solve(system) {
+        Solved::Vectors(answer) => Some(1 + (1 + answer.steps.len()) * system.n),
+        Solved::Nothing => Some(1 + system.equations.len()),
+        Solved::Unknown => None,
+    }
+}
+
+/// "Pass if the described vectors are those that solve the ledger's equations, fail otherwise."
+fn mark(system: &System, words: &[u32]) -> Said {
+    if !can_try(system.m, system.n) {
+        return Said::PassedOrFailed;
+    }
+    let vectors: Vec<Vec<u32>> = numbers(&words[1..]).chunks(system.n).map(|v| v.to_vec()).collect();
+    if described(system.m, &vectors) == solutions(system) {
+        Said::Passed
+    } else {
+        Said::Failed
+    }
+}
+
+/// Why a block of words is not the answer to the equations, if it is not.
+pub fn wrong_block(system: &System, block: &[u32]) -> Option<String> {
+    let (head, behind) = (block[0], &block[1..]);
+    if number(head) == 0 {
+        let good = kind(head) == HEAD && behind.iter().all(|&w| kind(w) == MULTIPLIER) && system.refuted_by(&numbers(behind));
+        return (!good).then(|| format!("{block:x?} is no certificate for {system:?}"));
+    }
+    let vectors: Vec<Vec<u32>> = numbers(behind).chunks(system.n).map(|v| v.to_vec()).collect();
+    if claim(&vectors) != block || vectors.iter().any(|v| v.len() != system.n) {
+        return Some(format!("{block:x?} has not the shape of a block for {system:?}"));
+    }
+    wrong_vectors(system, &vectors)
+}
+
+/// Why a start with steps is not the answer to the equations. Where it is unknown, they must at least solve them.
+pub fn wrong_vectors(system: &System, vectors: &[Vec<u32>]) -> Option<String> {
+    let good = match solve(system) {
+        Solved::Vectors(answer) => vectors_of(&answer) == vectors,
+        Solved::Nothing => false,
+        Solved::Unknown => {
+            let homogeneous = system.homogeneous();
+            vectors.iter().flatten().all(|&x| x < system.m)
+                && system.solved_by(&vectors[0])
+                && vectors[1..].iter().all(|step| homogeneous.solved_by(step))
+        }
+    };
+    (!good).then(|| format!("{vectors:?} is not the answer to {system:?}"))
+}

@@ -1,0 +1,147 @@
+//! The reference itself against the examples of the paper, so that the other tests compare with what the paper says.
+mod ledger;
+mod reference;
+mod tape;
+
+use ledger::{Call, Ledger, Said, Solved};
+use reference::{Answer, Congruence, System};
+use tape::{PAPER_LINES, PAPER_TAPE};
+
+fn system(m: u32, n: usize, equations: &[&[u32]]) -> System {
+    System { m, n, equations: equations.iter().map(|equation| equation.to_vec()).collect() }
+}
+
+/// "from .. , steps .."
+fn from(start: &[u32], steps: &[&[u32]]) -> Solved {
+    Solved::Vectors(Answer { start: start.to_vec(), steps: steps.iter().map(|step| step.to_vec()).collect() })
+}
+
+/// A ledger with these equations.
+fn opened(m: u32, n: u32, equations: &[&[u32]]) -> Ledger {
+    let mut sheet = Ledger::Unopened;
+    assert_eq!(sheet.run(&Call::Open(ledger::opening(m, n))), Said::Opened { m, n: n as usize });
+    for (held, equation) in equations.iter().enumerate() {
+        assert_eq!(sheet.run(&Call::Add(ledger::equation(equation))), Said::Added(held + 1));
+    }
+    sheet
+}
+
+fn claimed(sheet: &mut Ledger, vectors: &[&[u32]]) -> Said {
+    let vectors: Vec<Vec<u32>> = vectors.iter().map(|v| v.to_vec()).collect();
+    sheet.run(&Call::Mark(ledger::claim(&vectors)))
+}
+
+#[test]
+fn one_congruence_is_as_the_paper_says() {
+    assert_eq!(reference::congruence(4, 8, 12), Congruence::Solutions { least: 2, spacing: 3 });
+    assert_eq!(reference::congruence(4, 6, 12), Congruence::NoSolution);
+    assert!(system(12, 1, &[&[4, 6]]).refuted_by(&[3]));
+    assert!(!system(12, 1, &[&[4, 6]]).refuted_by(&[6]));
+}
+
+#[test]
+fn the_answers_of_the_paper_come_out() {
+    assert_eq!(ledger::solve(&system(12, 2, &[&[2, 3, 5]])), from(&[1, 1], &[&[3, 2], &[0, 4]]));
+    assert_eq!(ledger::solve(&system(6, 2, &[&[2, 3, 1]])), from(&[2, 1], &[&[3, 0], &[0, 2]]));
+    assert_eq!(ledger::solve(&system(4, 2, &[&[1, 2, 0]])), from(&[0, 0], &[&[2, 1], &[0, 2]]));
+    assert_eq!(ledger::solve(&system(12, 1, &[&[4, 6]])), Solved::Nothing);
+    assert_eq!(ledger::solve(&system(6, 2, &[])), from(&[0, 0], &[&[1, 0], &[0, 1]]));
+    assert_eq!(ledger::solve(&system(6, 2, &[&[2, 3, 1], &[0, 0, 0]])), from(&[2, 1], &[&[3, 0], &[0, 2]]));
+    assert_eq!(ledger::solve(&system(6, 2, &[&[2, 3, 1], &[0, 0, 1]])), Solved::Nothing);
+    let answer = reference::answer(&system(65_535, 1, &[&[65_534, 1]])).unwrap();
+    assert_eq!(answer, Answer { start: vec![65_534], steps: vec![] });
+}
+
+#[test]
+fn the_claims_of_the_paper_are_marked_as_it_says() {
+    let mut sheet = opened(4, 2, &[&[1, 2, 0]]);
+    assert_eq!(claimed(&mut sheet, &[&[0, 0], &[2, 3]]), Said::Passed);
+    assert_eq!(claimed(&mut sheet, &[&[0, 0], &[0, 2]]), Said::Failed);
+    assert_eq!(claimed(&mut sheet, &[&[0, 0], &[2, 1], &[0, 2]]), Said::Passed);
+    assert_eq!(claimed(&mut sheet, &[]), Said::Failed);
+}
+
+#[test]
+fn an_equation_that_leaves_no_solution_is_struck_again() {
+    let mut sheet = opened(6, 1, &[&[2, 4], &[3, 3]]);
+    assert_eq!(sheet.run(&Call::Answer(2)), Said::Answered(from(&[5], &[])));
+    assert_eq!(sheet.run(&Call::Add(ledger::equation(&[1, 0]))), Said::Added(3));
+    assert_eq!(sheet.run(&Call::Answer(4)), Said::Answered(Solved::Nothing));
+    assert_eq!(sheet.run(&Call::Answer(3)), Said::Refused(8));
+    assert!(system(6, 1, &[&[2, 4], &[3, 3], &[1, 0]]).refuted_by(&[0, 1, 3]));
+    assert_eq!(claimed(&mut sheet, &[]), Said::Passed);
+    assert_eq!(sheet.run(&Call::Strike), Said::Struck(2));
+    assert_eq!(sheet.run(&Call::Answer(2)), Said::Answered(from(&[5], &[])));
+    assert_eq!(sheet.run(&Call::Answer(1)), Said::Refused(8));
+}
+
+#[test]
+fn limits_are_those_of_the_paper() {
+    for m in [1, 65_536] {
+        assert_eq!(Ledger::Unopened.run(&Call::Open(ledger::opening(m, 1))), Said::Refused(2));
+    }
+    for n in [0, 17] {
+        assert_eq!(Ledger::Unopened.run(&Call::Open(ledger::opening(2, n))), Said::Refused(3));
+    }
+    assert_eq!(Ledger::Unopened.run(&Call::Open(ledger::opening(65_535, 16))), Said::Opened { m: 65_535, n: 16 });
+    let mut sheet = opened(2, 1, &[&[1, 1][..]; 16]);
+    assert_eq!(sheet.run(&Call::Add(ledger::equation(&[1, 1]))), Said::Refused(5));
+    assert_eq!(sheet.run(&Call::Add(ledger::equation(&[2, 1]))), Said::Refused(5));
+    assert_eq!(sheet.run(&Call::Add(ledger::equation(&[1]))), Said::Refused(1));
+}
+
+#[test]
+fn the_tape_of_the_paper_prints_its_ten_lines() {
+    assert_eq!(tape::wrong_lines(&tape::bytes(&PAPER_TAPE), PAPER_LINES.as_bytes()), None);
+    let known: Vec<Option<String>> =
+        tape::play(&tape::bytes(&PAPER_TAPE)).calls.iter().map(|(_, said, _)| tape::lines(said)).collect();
+    assert_eq!(known.iter().flatten().cloned().collect::<String>(), PAPER_LINES.replace("none 1 1\n", ""));
+    assert_eq!(known.iter().filter(|lines| lines.is_none()).count(), 1);
+}
+
+#[test]
+fn other_lines_are_not_taken_for_those_of_the_paper() {
+    let tape = tape::bytes(&PAPER_TAPE);
+    let changes = [
+        ("open 2 2", "open 2 3"),
+        ("from 0 1", "from 1 0"),
+        ("step 1 1", "step 01 1"),
+        ("step 1 1\n", ""),
+        ("none 1 1", "none 1 0"),
+        ("none 1 1", "none 1"),
+        ("none 1 1", "none 1 1 "),
+        ("none 1 1", "none 3 1"),
+        ("fail\n", "pass\n"),
+        ("refused 1\n", "refused 1"),
+        ("refused 1\n", "refused 1\n\n"),
+        ("refused 1\n", ""),
+    ];
+    for (old, new) in changes {
+        let changed = PAPER_LINES.replace(old, new);
+        assert_ne!(changed, PAPER_LINES);
+        assert!(tape::wrong_lines(&tape, changed.as_bytes()).is_some(), "{new:?} for {old:?}");
+    }
+}
+
+/// The tape's bytes print these lines; no multipliers are among them.
+fn prints(tape: &[u8], lines: &str) {
+    assert_eq!(tape::wrong_lines(tape, lines.as_bytes()), None);
+}
+
+#[test]
+fn the_tape_is_cut_into_calls_as_the_paper_says() {
+    for (words, lines) in tape::readings() {
+        prints(&tape::bytes(&words), &lines);
+    }
+}
+
+#[test]
+fn left_over_bytes_and_tapes_that_are_too_long_are_refused() {
+    prints(&[], "");
+    for left in 1..=3 {
+        prints(&vec![0; left], "refused 9\n");
+        prints(&[tape::bytes(&ledger::opening(2, 1)), vec![0; left]].concat(), "open 2 1\nrefused 9\n");
+    }
+    prints(&vec![0; 65_536], &"refused 1\n".repeat(16_384));
+    prints(&vec![0; 65_537], "refused 10\n");
+}

@@ -1,0 +1,164 @@
+//! The paper's tape and its lines once more in plain Rust, over the ledger beside it.
+#![allow(dead_code)]
+
+use crate::ledger::{self, kind, number, word, Call, Ledger, Said, Solved, ANSWER, COEFFICIENT, HEAD, MODULUS, STRIKE};
+
+/// The most bytes that a tape may have.
+pub const LONGEST_TAPE: usize = 65_536;
+
+/// "Words lie low byte first."
+pub fn bytes(words: &[u32]) -> Vec<u8> {
+    words.iter().flat_map(|w| w.to_le_bytes()).collect()
+}
+
+/// The whole words of a tape.
+pub fn words(tape: &[u8]) -> Vec<u32> {
+    tape.chunks_exact(4).map(|b| u32::from_le_bytes([b[0], b[1], b[2], b[3]])).collect()
+}
+
+/// "The first word's kind picks the call: 1 takes 2 words, 3 takes n+1, 5 takes 1 + n times its number; all other kinds take one,
+/// as do 3 and 5 when unopened and 5 with a number above 17. If fewer remain, all of them." The call, and how many words it takes.
+pub fn first_call(ledger: &Ledger, words: &[u32]) -> (Call, usize) {
+    let (kind, number) = (kind(words[0]), number(words[0]));
+    let wanted = match (kind, ledger) {
+        (MODULUS, _) => 2,
+        (COEFFICIENT, Ledger::Opened(system)) => system.n + 1,
+        (HEAD, Ledger::Opened(system)) if number <= 17 => 1 + system.n * number as usize,
+        _ => 1,
+    };
+    let used = wanted.min(words.len());
+    let own = words[..used].to_vec();
+    let call = match kind {
+        MODULUS => Call::Open(own),
+        COEFFICIENT => Call::Add(own),
+        HEAD => Call::Mark(own),
+        STRIKE => Call::StrikeFromTape(words[0]),
+        ANSWER => Call::AnswerFromTape(words[0]),
+        _ => Call::Meaningless(words[0]),
+    };
+    (call, used)
+}
+
+/// What a tape's calls say, each with the equations that it found, and last whether there are left-over bytes.
+pub struct Played {
+    pub calls: Vec<(Call, Said, Ledger)>,
+    pub left_over: bool,
+}
+
+/// The calls of a tape that is not too long, from a fresh sheet on.
+pub fn play(tape: &[u8]) -> Played {
+    assert!(tape.len() <= LONGEST_TAPE);
+    let words = words(tape);
+    let (mut ledger, mut rest, mut calls) = (Ledger::Unopened, &words[..], vec![]);
+    while !rest.is_empty() {
+        let (call, used) = first_call(&ledger, rest);
+        let before = ledger.clone();
+        let said = ledger.run(&call);
+        calls.push((call, said, before));
+        rest = &rest[used..];
+    }
+    Played { calls, left_over: tape.len() % 4 != 0 }
+}
+
+/// A line: the word, then the numbers, "parted by single spaces, with numbers in decimal without leading zeros"; at its "end one
+/// byte 0x0A".
+fn line(name: &str, numbers: &[u32]) -> String {
+    let numbers: String = numbers.iter().map(|number| format!(" {number}")).collect();
+    format!("{name}{numbers}\n")
+}
+
+/// The lines that a call prints, or None where they are not known: multipliers are free, and large sheets are not solved here.
+pub fn lines(said: &Said) -> Option<String> {
+    Some(match said {
+        Said::Opened { m, n } => line("open", &[*m, *n as u32]),
+        Said::Added(held) => line("added", &[*held as u32]),
+        Said::Struck(held) => line("struck", &[*held as u32]),
+        Said::Answered(Solved::Vectors(answer)) => {
+            let steps: String = answer.steps.iter().map(|step| line("step", step)).collect();
+            line("from", &answer.start) + &steps
+        }
+        Said::Passed => line("pass", &[]),
+        Said::Failed => line("fail", &[]),
+        Said::Refused(number) => line("refused", &[*number]),
+        Said::Answered(Solved::Nothing | Solved::Unknown) | Said::PassedOrFailed => return None,
+    })
+}
+
+/// The numbers of a line with this first word, if it is written as `line` writes it.
+fn read_line(name: &str, text: &str) -> Option<Vec<u32>> {
+    let numbers = text.strip_suffix('\n')?.strip_prefix(name)?.split(' ').skip(1);
+    let numbers: Vec<u32> = numbers.map(|number| number.parse().ok()).collect::<Option<_>>()?;
+    (line(name, &numbers) == text).then_some(numbers)
+}
+
+/// Why these bytes are not the lines of the tape, if they are not.
+pub fn wrong_lines(tape: &[u8], printed: &[u8]) -> Option<String> {
+    if tape.len() > LONGEST_TAPE {
+        return (printed != b"refused 10\n").then(|| "not refused with 10".to_string());
+    }
+    let Ok(mut rest) = std::str::from_utf8(printed) else {
+        return Some("not text".to_string());
+    };
+    let played = play(tape);
+    for (place, (call, said, before)) in played.calls.iter().enumerate() {
+        match printed_by(said, before, rest) {
+            Some(length) => rest = &rest[length..],
+            None => return Some(format!("call {place}, {call:?} on {before:?}: {said:?} expected at {rest:?}")),
+        }
+    }
+    let last = if played.left_over { "refused 9\n" } else { "" };
+    (rest != last).then(|| format!("{last:?} expected at the end, {rest:?} found"))
+}
+
+/// How many bytes at the front of the text are the lines of a call that says this; None where they are not its lines.
+fn printed_by(said: &Said, before: &Ledger, text: &str) -> Option<usize> {
+    if let Some(expected) = lines(said) {
+        return text.starts_with(&expected).then_some(expected.len());
+    }
+    let Ledger::Opened(system) = before else { unreachable!("question 4") };
+    let first = text.split_inclusive('\n').next()?;
+    match said {
+        Said::PassedOrFailed => (first == "pass\n" || first == "fail\n").then_some(first.len()),
+        Said::Answered(Solved::Nothing) => system.refuted_by(&read_line("none", first)?).then_some(first.len()),
+        _ if first.starts_with("none") => system.refuted_by(&read_line("none", first)?).then_some(first.len()),
+        _ => {
+            let mut vectors = vec![read_line("from", first)?];
+            let mut length = first.len();
+            for following in text.split_inclusive('\n').skip(1).take_while(|line| line.starts_with("step")) {
+                vectors.push(read_line("step", following)?);
+                length += following.len();
+            }
+            let whole = vectors.iter().all(|v| v.len() == system.n);
+            (whole && ledger::wrong_vectors(system, &vectors).is_none()).then_some(length)
+        }
+    }
+}
+
+/// The tape that the paper prints, and its ten lines.
+pub const PAPER_TAPE: [u32; 20] = [
+    0x10000002, 0x20000002, 0x30000001, 0x30000001, 0x40000001, 0x90000000, 0x30000001, 0x30000001, 0x40000000, 0x90000000,
+    0x80000000, 0x50000001, 0x60000001, 0x60000000, 0x50000002, 0x60000001, 0x60000000, 0x60000001, 0x60000001, 0xA0000000,
+];
+pub const PAPER_LINES: &str = "open 2 2\nadded 1\nfrom 0 1\nstep 1 1\nadded 2\nnone 1 1\nstruck 1\nfail\npass\nrefused 1\n";
+
+/// Tapes that are easily misread, with their lines.
+pub fn readings() -> Vec<(Vec<u32>, String)> {
+    let opened = |words: &[u32]| [&ledger::opening(3, 2), words].concat();
+    let meaningless: Vec<u32> = [0, 2, 4, 6, 7, 10, 11, 12, 13, 14, 15].iter().map(|&kind| word(kind, 5)).collect();
+    vec![
+        // whatever its number, a word of a call on an unopened sheet says 4
+        (vec![0x3000_0001, 0x5000_0001, 0x8000_0001, 0x9000_0001, 0x8000_0000, 0x9000_0000], "refused 4\n".repeat(6)),
+        // words without meaning say 1, opened or not
+        (meaningless.clone(), "refused 1\n".repeat(11)),
+        (opened(&meaningless), "open 3 2\n".to_string() + &"refused 1\n".repeat(11)),
+        // a call's length does not look at the kinds of the later words
+        (opened(&[0x3000_0001, 0x9000_0000, 0x4000_0000]), "open 3 2\nrefused 1\n".to_string()),
+        // a call that is cut off is one call
+        (opened(&[0x3000_0001, 0x3000_0000]), "open 3 2\nrefused 1\n".to_string()),
+        (vec![0x1000_0003], "refused 1\n".to_string()),
+        // a head above 17 takes one word, and so does head 0
+        (opened(&[0x5000_0012, 0x5000_0000]), "open 3 2\nrefused 1\nfail\n".to_string()),
+        // the word's number is asked for before an equation
+        (opened(&[0x9000_0001, 0x8000_0001, 0x8000_0000]), "open 3 2\nrefused 1\nrefused 1\nrefused 7\n".to_string()),
+    ]
+}
