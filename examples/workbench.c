@@ -1,5 +1,5 @@
-/* A small workbench: it asks for a divisor, for the solutions of some congruences and of some lists of equations, and prints
- * what it is told. */
+/* A small workbench: it asks for a divisor, for the solutions of some congruences and of some lists of equations, and for the turns
+ * that open some safes, and prints what it is told. */
 #include <inttypes.h>
 #include <stdio.h>
 
@@ -59,6 +59,30 @@ static void show_answer(uint32_t m, const uint32_t lines[6])
     }
 }
 
+/* The turns that open a safe of two rows, by milebadger_safe: a row of turns for each row of locks. */
+static void show_turns(uint32_t m, uint32_t columns, const uint32_t *values)
+{
+    uint32_t words[16];
+    uint32_t turns[16];
+    for (uint32_t i = 0; i < 2 * columns; i++)
+        words[i] = MILEBADGER_ENTRY(values[i]);
+    int64_t result = milebadger_safe(m, 2, columns, words, 2 * columns, turns, 16);
+
+    printf("a safe mod %" PRIu32 ":\n", m);
+    for (uint32_t row = 0; row < 2; row++)
+        show_numbers("locks", values + row * columns, columns);
+    if (result < 0) {
+        printf("  refused %" PRId64 "\n", -result);
+    } else if (result == 0) {
+        printf("  no turns\n");
+    } else {
+        for (uint32_t i = 0; i < 2 * columns; i++)
+            turns[i] = MILEBADGER_NUMBER(turns[i]);
+        for (uint32_t row = 0; row < 2; row++)
+            show_numbers("turns", turns + row * columns, columns);
+    }
+}
+
 int main(void)
 {
     show_divisor(1071, 462);
@@ -74,5 +98,10 @@ int main(void)
     show_answer(12, (const uint32_t[]){2, 3, 5, 4, 6, 10});
     show_answer(2, (const uint32_t[]){1, 1, 1, 1, 1, 0});
     show_answer(12, (const uint32_t[]){2, 3, 5, 4, 6, 12});
+
+    show_turns(2, 3, (const uint32_t[]){1, 1, 0, 0, 1, 1});
+    show_turns(3, 4, (const uint32_t[]){2, 0, 2, 2, 1, 2, 2, 1});
+    show_turns(2, 3, (const uint32_t[]){1, 0, 0, 0, 0, 0});
+    show_turns(2, 3, (const uint32_t[]){1, 1, 0, 0, 1, 2});
     return 0;
 }

@@ -10,8 +10,8 @@
  *     -8           where `out` is too short for the numbers. Asked last, and only where numbers would be written.
  * At 0 and at a negative result `out` keeps its content. Past the numbers it always does.
  *
- * Memory. `out` points to `out_len` numbers that are the caller's and that nobody else uses during the call. `lines` points to
- * `lines_len` numbers that nobody writes meanwhile; the two do not overlap.
+ * Memory. `out` points to `out_len` numbers that are the caller's and that nobody else uses during the call. `lines` and `values`
+ * point to `lines_len` and `values_len` numbers that nobody writes meanwhile; they do not overlap `out`.
  */
 #ifndef MILEBADGER_H
 #define MILEBADGER_H
@@ -59,6 +59,22 @@ int64_t milebadger_solve(uint32_t m, uint32_t n, const uint32_t *lines, size_t l
 
 /* A head, and 17 vectors of 16 entries. */
 #define MILEBADGER_LONGEST_BLOCK 273
+
+/* A safe: locks in rows and columns, each at a value from 0 to m - 1. Turning a lock by t adds t mod m to each lock in its row and
+ * its column, to itself once. `values` holds the locks row after row, a word each: MILEBADGER_ENTRY(value).
+ *
+ * Asks     m from 2 to 65,535? If not, -2.  rows and columns at least 1, rows * columns at most 16? If not, -3.
+ *          values_len equal to rows * columns, all words of kind 6? If not, -1.  All values below m? If not, -6.
+ * Needs    out_len at least rows * columns where there are turns.
+ * Writes   a turn for each lock, row after row, as the same words: of all turns from 0 to m - 1 that bring every lock to 0 the
+ *          first in dictionary order.
+ * Returns  how many words it wrote, which is rows * columns; 0 where no turns bring every lock to 0; or -2, -3, -1, -6, -8. */
+int64_t milebadger_safe(uint32_t m, uint32_t rows, uint32_t columns, const uint32_t *values, size_t values_len, uint32_t *out,
+                        size_t out_len);
+
+/* A word of kind 6, "vector entry": the kind in the top 4 bits, the number in the low 28. And the number of a word. */
+#define MILEBADGER_ENTRY(number) (UINT32_C(0x60000000) | (uint32_t)(number))
+#define MILEBADGER_NUMBER(word) ((uint32_t)(word) & UINT32_C(0x0FFFFFFF))
 
 #ifdef __cplusplus
 }

@@ -6,6 +6,15 @@ extern "C" {
     fn milebadger_gcd(a: u32, b: u32, out: *mut u32, out_len: usize) -> i64;
     fn milebadger_congruence(a: u32, b: u32, m: u32, out: *mut u32, out_len: usize) -> i64;
     fn milebadger_solve(m: u32, n: u32, lines: *const u32, lines_len: usize, out: *mut u32, out_len: usize) -> i64;
+    fn milebadger_safe(
+        m: u32,
+        rows: u32,
+        columns: u32,
+        values: *const u32,
+        values_len: usize,
+        out: *mut u32,
+        out_len: usize,
+    ) -> i64;
 }
 
 /// What a call gave back: its result, and the lent memory after it.
@@ -56,14 +65,25 @@ pub fn congruence(a: u32, b: u32, m: u32, len: usize) -> Reply {
     lend(len, |out, len| unsafe { milebadger_congruence(a, b, m, out, len) })
 }
 
-pub fn solve(m: u32, n: u32, lines: &[u32], len: usize) -> Reply {
+/// Calls with numbers to read, which have a guard on both sides too and must be the same afterwards.
+fn reading(numbers: &[u32], call: impl FnOnce(*const u32, usize) -> Reply) -> Reply {
     let mut lent = vec![GUARD; GUARDS];
-    lent.extend(lines);
+    lent.extend(numbers);
     lent.extend([GUARD; GUARDS]);
     let before = lent.clone();
-    let reply = lend(len, |out, len| unsafe { milebadger_solve(m, n, lent[GUARDS..].as_ptr(), lines.len(), out, len) });
-    assert_eq!(lent, before, "the lines were written");
+    let reply = call(lent[GUARDS..].as_ptr(), numbers.len());
+    assert_eq!(lent, before, "what was to be read was written");
     reply
+}
+
+pub fn solve(m: u32, n: u32, lines: &[u32], len: usize) -> Reply {
+    reading(lines, |lines, count| lend(len, |out, len| unsafe { milebadger_solve(m, n, lines, count, out, len) }))
+}
+
+pub fn safe(m: u32, rows: u32, columns: u32, values: &[u32], len: usize) -> Reply {
+    reading(values, |values, count| {
+        lend(len, |out, len| unsafe { milebadger_safe(m, rows, columns, values, count, out, len) })
+    })
 }
 
 /// The longest answer block: a head, a start and 16 steps of 16 numbers.

@@ -170,3 +170,60 @@ pub fn solve_refusal(m: u32, n: u32, lines: &[u32]) -> Option<u32> {
     ];
     questions.iter().find(|(_, yes)| !yes).map(|&(number, _)| number)
 }
+
+/// A safe: the values of its locks, row after row.
+#[derive(Clone, Debug)]
+pub struct Safe {
+    pub m: u32,
+    pub rows: usize,
+    pub columns: usize,
+    pub values: Vec<u32>,
+}
+
+impl Safe {
+    /// "Turning a lock by t adds t to each lock in its row and column, itself once": every row and column is gone through, as the
+    /// sentence reads, and each turn is made in its turn.
+    pub fn after(&self, turns: &[u32]) -> Vec<u32> {
+        let mut locks: Vec<Vec<u32>> = self.values.chunks(self.columns).map(|row| row.to_vec()).collect();
+        for row in 0..self.rows {
+            for column in 0..self.columns {
+                let t = turns[row * self.columns + column];
+                for other in 0..self.columns {
+                    locks[row][other] = (locks[row][other] + t) % self.m;
+                }
+                for other in (0..self.rows).filter(|&other| other != row) {
+                    locks[other][column] = (locks[other][column] + t) % self.m;
+                }
+            }
+        }
+        locks.concat()
+    }
+
+    /// The turns "bring all to 0".
+    pub fn opened_by(&self, turns: &[u32]) -> bool {
+        self.after(turns).iter().all(|&value| value == 0)
+    }
+
+    /// "The dictionary-first turns .. that bring all to 0, or none", by trying all.
+    pub fn turns(&self) -> Option<Vec<u32>> {
+        vectors(self.m, self.rows * self.columns).find(|turns| self.opened_by(turns))
+    }
+}
+
+/// The question about its arguments that turns a call of milebadger_safe away, where there is one: "m? 2. Size? 3. Kind 6, right
+/// count? 1. Below m? 6."
+pub fn safe_refusal(m: u32, rows: u32, columns: u32, values: &[u32]) -> Option<u32> {
+    let locks = rows as u64 * columns as u64;
+    let questions = [
+        (2, (2..=65_535).contains(&m)),
+        (3, rows >= 1 && columns >= 1 && locks <= 16),
+        (1, values.len() as u64 == locks && values.iter().all(|word| word >> 28 == 6)),
+        (6, values.iter().all(|word| word & 0x0FFF_FFFF < m)),
+    ];
+    questions.iter().find(|(_, yes)| !yes).map(|&(number, _)| number)
+}
+
+/// A word of kind 6, "vector entry".
+pub fn entry(number: u32) -> u32 {
+    6 << 28 | number
+}

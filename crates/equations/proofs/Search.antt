@@ -4,6 +4,7 @@
 --   first-some                 what `first` finds is such a vector
 --   first-holds, first-least   its parts
 --   none-means-none            where it finds nothing, no vector passes
+--   first-cong                 tests that agree on all vectors have the same first
 use mathlib.Core.Path.{_≡_, sym, _∙_, subst}
 use mathlib.Core.Logic.{_⊎_, inl, inr}
 use mathlib.Core.List.{List, [], _∷_}
@@ -92,3 +93,14 @@ none-means-none m n p h w vec = go (search-vectors m n p)
     go : Search m n p → T (p w) → ⊥
     go (inl (v, f)) t = Option·some-ne-none v (sym (first-is m n p v (f .vector) (f .holds) (f .least)) ∙ h)
     go (inr fails) t = of-false (fails w vec) t
+
+pub first-cong : (m n : ℕ) (p q : List ℕ → Bool) → ((v : List ℕ) → Vector m n v → p v ≡ q v)
+    → first p (vectors m n) ≡ first q (vectors m n)
+first-cong m n p q same = go (search-vectors m n p)
+  where
+    go : Search m n p → first p (vectors m n) ≡ first q (vectors m n)
+    go (inl (v, f)) =
+        first-is m n p v (f .vector) (f .holds) (f .least)
+        ∙ sym (first-is m n q v (f .vector) (sym (same v (f .vector)) ∙ f .holds)
+        (λ w vec b. sym (same w vec) ∙ f .least w vec b))
+    go (inr fails) = first-none m n p fails ∙ sym (first-none m n q (λ w vec. sym (same w vec) ∙ fails w vec))

@@ -3,6 +3,7 @@ use Prim.Native.Nat.{ℕ, _+_, _/_, _%_}
 use mathlib.Core.Bool.{_&&_}
 use mathlib.Core.List.{List, [], _∷_}
 use lib.Dec.{eqb, leb}
+use lib.IntN.{ℤ, pos, negℤ}
 use lib.ListN.{length}
 use Rattle.residue.specs.Chain.{chainOf}
 use Rattle.residue.specs.Congruence.{congruenceOf}
@@ -12,6 +13,9 @@ use Rattle.residue.specs.declared.congruence.Solved.the-variants.{Refused, NoSo
 use Rattle.equations.specs.Lines.{equationsOf}
 use Rattle.equations.specs.Multipliers.{allBelow}
 use Rattle.system.specs.Block.{blockOf}
+use Rattle.safe.specs.declared.Turned.{Turned}
+use Rattle.safe.specs.declared.Turned.the-variants.{Wrote, NoTurns}
+use Rattle.safe.specs.declared.Turned.the-variants.{Refused as Turned·Refused}
 use Rattle.milebadger.specs.Reply.{Reply, gives, refuses}
 
 -- 1, and the divisor with the number of divisions
@@ -50,3 +54,9 @@ blockReply block = gives (length block) block
 unfoldable pub solveReply : ℕ → ℕ → List ℕ → Reply
 solveReply m n xs =
     unlessRefused refuses (firstNo (solveQuestions m n xs)) (blockReply (blockOf m n (equationsOf n xs)))
+
+-- what the safe's call gives back, as a result: the words written, 0 for none, or minus the number of the refusal
+unfoldable pub turnedResult : Turned → ℤ
+turnedResult (Wrote k) = pos k
+turnedResult NoTurns = pos 0
+turnedResult (Turned·Refused k) = negℤ (pos k)

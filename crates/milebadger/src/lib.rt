@@ -2,8 +2,10 @@
 mod asking;
 mod replying;
 
+ghost use mathlib.Core.Path.{_≡_};
+ghost use Rattle.safe.specs.Calls.{turnedOf, bufferAfter};
 ghost use Rattle.milebadger.specs.Reply.{Replied};
-ghost use Rattle.milebadger.specs.Calls.{gcdReply, congruenceReply, solveReply};
+ghost use Rattle.milebadger.specs.Calls.{gcdReply, congruenceReply, solveReply, turnedResult};
 use asking::refusal;
 use replying::give;
 use replying::give_block;
@@ -11,6 +13,8 @@ use replying::refuse;
 use residue::congruence::Solved;
 use residue::congruence::solve as solve_one;
 use residue::euclid::gcd;
+use safe::Turned;
+use safe::solve as solve_safe;
 use system::solving::solve;
 
 // Euclid's chain: the divisor of a and b and the number of divisions made.
@@ -51,4 +55,24 @@ pub extern "C" fn milebadger_solve(m: u32, n: u32, lines: &[u32], out: &mut [u32
     let answer = solve(m, n as usize, lines);
     let numbers = answer.numbers;
     give_block(answer.head, &numbers[..answer.len], out)
+}
+
+// A safe of rows times columns locks with these values, as words: the first turns that bring all locks to 0.
+#[no_mangle]
+pub extern "C" fn milebadger_safe(
+    m: u32,
+    rows: u32,
+    columns: u32,
+    values: &[u32],
+    out: &mut [u32],
+) -> i64
+    ensures { λ r. ⌜ r ≡ turnedResult (turnedOf m rows columns (now (values .entry)) (now (out .entry))) ⌝ }
+    ensures { λ _. ⌜ now (out .exit) ≡ bufferAfter m rows columns (now (values .entry)) (now (out .entry)) ⌝ }
+{
+    let turned = solve_safe(m, rows, columns, values, out);
+    match turned {
+        Turned::Wrote(words) => words as i64,
+        Turned::NoTurns => 0,
+        Turned::Refused(number) => refuse(number),
+    }
 }

@@ -1,13 +1,15 @@
--- Questions that turn nothing away: where none gives its number, each has the answer yes.
+-- Questions that turn nothing away: where none gives its number, each has the answer yes. And questions in two lists.
 --   numbered          no question has the number 0, which stands for none; a test, so that a list shows it by computing
 --   AllYes, all-yes   each question has the answer yes; so it is where none turns a call away
-use mathlib.Core.Path.{_≡_}
+--   first-no-append   the questions of a second list are asked where none of the first turns a call away
+use mathlib.Core.Path.{_≡_, refl}
 use mathlib.Core.Bool.{Bool, true, false, cond, _&&_}
-use mathlib.Core.List.{List, [], _∷_}
+use mathlib.Core.List.{List, [], _∷_, _++_}
 use native.Mathlib.Omega.{arith}
 use lib.Dec.{T, ltb, ltb→lt}
 use mir.Facts.{and-yes}
-use Rattle.residue.specs.Questions.{Question, firstNo}
+use borrow.Author.Tests.{ne-eqb}
+use Rattle.residue.specs.Questions.{Question, firstNo, unlessRefused}
 
 abbrev pub numbered : List Question → Bool
 numbered [] = true
@@ -26,3 +28,17 @@ all-yes (q ∷ qs) numbers none =
         → T test × AllYes qs
     go true n h rest = (tt, rest h)
     go false n h rest = absurd (omega (arith, ltb→lt 0 (q .number) n))
+
+pub first-no-append : (qs rest : List Question) → T (numbered qs)
+    → firstNo (qs ++ rest) ≡ unlessRefused (λ k. k) (firstNo qs) (firstNo rest)
+first-no-append [] rest numbers = refl
+first-no-append (q ∷ qs) rest numbers =
+    let n = and-yes (ltb 0 (q .number)) (numbered qs) numbers in
+    go (q .yes) (n .0) (first-no-append qs rest (n .1))
+  where
+    go : (test : Bool) → T (ltb 0 (q .number))
+        → firstNo (qs ++ rest) ≡ unlessRefused (λ k. k) (firstNo qs) (firstNo rest)
+        → cond test (firstNo (qs ++ rest)) (q .number)
+        ≡ unlessRefused (λ k. k) (cond test (firstNo qs) (q .number)) (firstNo rest)
+    go true n h = h
+    go false n h = rw (ne-eqb (q .number) 0 (λ e. omega (arith, ltb→lt 0 (q .number) n)))

@@ -1,0 +1,40 @@
+// The safe puzzle: locks in rows and columns that are turned together. The turns that open it are found by solving an
+// equation for each lock.
+mod asking;
+mod lines;
+mod opening;
+
+ghost use mathlib.Core.Path.{_≡_};
+ghost use Rattle.safe.specs.Calls.{turnedOf, bufferAfter};
+use asking::refusal;
+use opening::first_turns;
+use words::writing::write;
+
+// What the call gives back: how many words of turns it wrote, that no turns open the safe, or a refusal's number.
+pub enum Turned {
+    Wrote(usize),
+    NoTurns,
+    Refused(u32),
+}
+
+// The first turns in dictionary order that bring all locks to 0, as words of kind 6 at the front of out.
+pub fn solve(m: u32, rows: u32, columns: u32, values: &[u32], out: &mut [u32]) -> Turned
+    ensures { λ r. ⌜ r ≡ turnedOf m rows columns (now (values .entry)) (now (out .entry)) ⌝ }
+    ensures { λ _. ⌜ now (out .exit) ≡ bufferAfter m rows columns (now (values .entry)) (now (out .entry)) ⌝ }
+{
+    let number = refusal(m, rows, columns, values);
+    if number != 0 {
+        return Turned::Refused(number);
+    }
+    let answer = first_turns(m, columns as usize, values);
+    if answer.head == 0 {
+        return Turned::NoTurns;
+    }
+    let n = values.len();
+    if out.len() < n {
+        return Turned::Refused(8);
+    }
+    let turns = answer.numbers;
+    write(6, &turns[..n], out);
+    Turned::Wrote(n)
+}
