@@ -1,4 +1,5 @@
 -- Laws about the definitions in specs/, for every crate above.
+pub mod Unopened
 pub mod Shapes
 pub mod Blocks
 pub mod Answer

@@ -1,5 +1,6 @@
 -- Laws about a sheet's record, the ledger that it reads as, and lists of calls.
 pub mod Reading
+pub mod Few
 pub mod Asked
 pub mod Entering
 pub mod Records

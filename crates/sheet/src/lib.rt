@@ -3,6 +3,7 @@
 pub mod adding;
 pub mod answering;
 mod asking;
+pub mod counting;
 pub mod marking;
 pub mod opening;
 mod shapes;

@@ -1,13 +1,15 @@
 -- What is written to the front of a lent list.
 --   over-on      one number more is written
 --   over-end     and all are
+--   over-fits    what is written fits
 --   over-front   it is what the front holds
+--   over-one     one element more behind it
 --   over-then    two lists, the second into the part behind the first
 --   over-behind  the same, where it is known by an equation what the first left
 --   head-then    a head stored, and a list into the part behind it
 use mathlib.Core.Path.{_≡_, refl, sym, ap, _∙_}
 use mathlib.Core.List.{List, [], _∷_, _++_, append-assoc}
-use Prim.Native.Nat.{ℕ, suc, _+_, _<_}
+use Prim.Native.Nat.{ℕ, suc, _+_, _<_, _≤_}
 use native.Mathlib.Numerals.{add-one}
 use native.Mathlib.Omega.{arith}
 use lib.ListN.{length, take, drop, getD, set, length-append}
@@ -27,8 +29,18 @@ module _ {A : Type 0} where
   over-end i xs old h =
       ap (λ (k : ℕ). take k xs ++ drop k old) h ∙ ap (λ (z : List A). z ++ drop (length xs) old) (take-length xs)
 
+  pub over-fits : (xs old : List A) {new : List A} → new ≡ over xs old → length xs ≤ length new
+  over-fits xs old is = omega (arith, ap length is, length-append xs (drop (length xs) old))
+
   pub over-front : (n : ℕ) (xs old : List A) {new : List A} → new ≡ over xs old → length xs ≡ n → take n new ≡ xs
   over-front n xs old is h = ap (take n) is ∙ take-at xs (drop (length xs) old) n h
+
+  pub over-one : (xs old : List A) (y : A) → length xs < length old
+      → set (over xs old) (length xs) y ≡ over (xs ++ (y ∷ [])) old
+  over-one xs old y room =
+      rw (length-append, add-one, drop-cons old (length xs) y room)
+      (set-at xs (getD old (length xs) y) (drop (suc (length xs)) old) y (length xs) refl
+      ∙ sym (append-snoc xs y (drop (suc (length xs)) old)))
 
   over-over : (xs ys old : List A) → xs ++ over ys (drop (length xs) old) ≡ over (xs ++ ys) old
   over-over xs ys old =

@@ -4,12 +4,13 @@
 --   block-below    behind the head stand residues
 --   block-head     the head is at most the number of unknowns plus 1
 --   block-start    a head that is not 0 has a starting vector behind it
+--   block-vectors  there are numbers for all vectors that the head counts
 --   block-length   how long a block can be
 use mathlib.Core.Path.{_≡_, ap}
 use mathlib.Core.Logic.{⊎-elim}
 use mathlib.Core.List.{List, _∷_, _++_, flatten}
 use mathlib.Core.Option.{Option, none, some}
-use Prim.Native.Nat.{ℕ, suc, _+_, _<_, _≤_}
+use Prim.Native.Nat.{ℕ, suc, _+_, _*_, _<_, _≤_}
 use native.Mathlib.Nat.{mul-le-mul}
 use native.Mathlib.Omega.{arith}
 use lib.ListN.{length, drop, getD, length-append}
@@ -55,6 +56,23 @@ module _ (m n : ℕ) (es : List Equation) where
       solved (c, h) =
           rw (block-some c h)
           (omega (arith, length-append c (flatten (stepsOf m n es)), vector-length m n c (start-solves m n es c h .0)))
+
+  -- for every vector that the head counts there are n numbers behind it
+  pub block-vectors : getD (blockOf m n es) 0 0 * n < length (blockOf m n es)
+  block-vectors = ⊎-elim unsolved solved (start-found m n es)
+    where
+      unsolved : startOf m n es ≡ none → getD (blockOf m n es) 0 0 * n < length (blockOf m n es)
+      unsolved h = rw (multipliers-block h) (omega arith)
+
+      solved : (c : List ℕ) × (startOf m n es ≡ some c) → getD (blockOf m n es) 0 0 * n < length (blockOf m n es)
+      solved (c, h) =
+          rw (block-some c h)
+          (omega (
+            arith,
+            length-append c (flatten (stepsOf m n es)),
+            vector-length m n c (start-solves m n es c h .0),
+            flat-length m n (stepsOf m n es) (steps-vectors m n es),
+          ))
 
   module _ (pos : 0 < m) (shaped : Shaped n es) where
     pub block-none : startOf m n es ≡ none → (ks : List ℕ) × (blockOf m n es ≡ 0 ∷ ks) × T (refutes m n es ks)

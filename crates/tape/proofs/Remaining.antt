@@ -1,0 +1,98 @@
+-- What the rest of a tape prints, from the ledger before it, and how a step of the reader takes its lines off.
+--   remaining           the lines of the calls on the rest, and the line of the bytes left over
+--   lines-remaining     those of the whole tape are its lines
+--   remaining-step      the lines of the first call, and what remains behind it
+--   remaining-end       less than a word prints the line of the bytes left over
+--   used-some, -whole   a step takes a word at least, and no more than there is
+use mathlib.Core.Path.{_≡_, refl, sym, ap, _∙_}
+use mathlib.Core.List.{List, [], _∷_, _++_, append-assoc}
+use Prim.Native.Nat.{ℕ, zero, suc, _*_, _/_, _%_, _≤_, _<_, min}
+use native.Mathlib.Omega.{arith}
+use borrow.Author.Tests.{le-leb}
+use lib.ListN.{length, take, drop, getD, length-take, length-drop}
+use Rattle.ledger.specs.Ledger.{Ledger, unopened}
+use Rattle.ledger.specs.Calls.{Call}
+use Rattle.ledger.specs.History.{enter, ledgerFrom}
+use Rattle.sheet.specs.declared.Sheet.{Sheet}
+use Rattle.sheet.specs.Record.{fresh, ledgerOf}
+use Rattle.sheet.specs.History.{left, sheetFrom}
+use Rattle.sheet.proofs.History.{left-reads, after-reads}
+use Rattle.tape.specs.Bytes.{wordsIn}
+use Rattle.tape.specs.Calls.{wanted, wanted-some, behindFirst, callsOn, calls-none, calls-first}
+use Rattle.tape.specs.Lines.{callLines, linesFrom, leftOverLine, mostBytes, lines}
+use Rattle.tape.specs.Reader.{linesOn, firstOn, takenFrom}
+use Rattle.tape.proofs.Bytes.{words-length, words-behind}
+
+abbrev pub remaining : Ledger → List ℕ → List ℕ
+remaining l rest = linesFrom l (callsOn l (wordsIn rest)) ++ leftOverLine rest
+
+pub fresh-unopened : ledgerOf fresh ≡ unopened
+unfolding sheetFrom ledgerFrom
+fresh-unopened = after-reads []
+
+pub lines-remaining : (tape : List ℕ) → length tape ≤ mostBytes → lines tape ≡ remaining (ledgerOf fresh) tape
+unfolding lines
+lines-remaining tape fits = rw (le-leb (length tape) mostBytes fits, fresh-unopened)
+
+-- ---- one step
+
+-- no more can be dropped than can be taken
+drop-taken : (c : ℕ) (ws : List ℕ) → drop (length (take c ws)) ws ≡ drop c ws
+drop-taken zero ws = refl
+drop-taken (suc c) [] = refl
+drop-taken (suc c) (w ∷ ws) = drop-taken c ws
+
+abbrev pub usedBy : Ledger → List ℕ → ℕ
+usedBy l rest = 4 * length (takenFrom l (wordsIn rest))
+
+module _ (l : Ledger) (rest : List ℕ) where
+  taken-count : length (takenFrom l (wordsIn rest)) ≡ min (wanted l (getD (wordsIn rest) 0 0)) (length rest / 4)
+  taken-count =
+      length-take (wanted l (getD (wordsIn rest) 0 0)) (wordsIn rest)
+      ∙ ap (min (wanted l (getD (wordsIn rest) 0 0))) (words-length rest)
+
+  pub used-some : 4 ≤ length rest → 4 ≤ usedBy l rest
+  used-some whole = omega (arith, taken-count, wanted-some l (getD (wordsIn rest) 0 0))
+
+  pub used-fits : usedBy l rest ≤ length rest
+  used-fits = omega (arith, taken-count)
+
+  behind-used : wordsIn (drop (usedBy l rest) rest) ≡ behindFirst l (wordsIn rest)
+  unfolding behindFirst
+  behind-used =
+      words-behind (length (takenFrom l (wordsIn rest))) rest
+      ∙ drop-taken (wanted l (getD (wordsIn rest) 0 0)) (wordsIn rest)
+
+  left-over-used : leftOverLine (drop (usedBy l rest) rest) ≡ leftOverLine rest
+  left-over-used =
+      let same : length (drop (usedBy l rest) rest) % 4 ≡ length rest % 4 =
+      omega (arith, length-drop (usedBy l rest) rest, used-fits) in
+      rw same
+
+pub remaining-step : (s : Sheet) (rest : List ℕ) → 4 ≤ length rest
+    → remaining (ledgerOf s) rest
+    ≡ linesOn s (firstOn s rest) ++ remaining (ledgerOf (left s (firstOn s rest))) (drop (usedBy (ledgerOf s) rest) rest)
+unfolding linesFrom
+remaining-step s rest whole =
+    let l = ledgerOf s in
+    let c = firstOn s rest in
+    let after = drop (usedBy l rest) rest in
+    let some : 0 < length (wordsIn rest) = omega (arith, words-length rest) in
+    ap (λ (calls : List Call). linesFrom l calls ++ leftOverLine rest) (calls-first l (wordsIn rest) some)
+    ∙ append-assoc (callLines l c) (linesFrom (enter l c) (callsOn (enter l c) (behindFirst l (wordsIn rest)))) (leftOverLine rest)
+    ∙ ap (λ (ws : List ℕ). callLines l c ++ (linesFrom (enter l c) (callsOn (enter l c) ws) ++ leftOverLine rest))
+    (sym (behind-used l rest))
+    ∙ ap (λ (z : List ℕ). callLines l c ++ (linesFrom (enter l c) (callsOn (enter l c) (wordsIn after)) ++ z))
+    (sym (left-over-used l rest))
+    ∙ ap (λ (l′ : Ledger). callLines l c ++ remaining l′ after) (sym (left-reads s c))
+
+no-words : (ws : List ℕ) → length ws ≡ 0 → ws ≡ []
+no-words [] none = refl
+no-words (w ∷ ws) none = absurd (omega arith)
+
+pub remaining-end : (l : Ledger) (rest : List ℕ) → length rest < 4 → remaining l rest ≡ leftOverLine rest
+unfolding linesFrom
+remaining-end l rest short =
+    ap (λ (ws : List ℕ). linesFrom l (callsOn l ws) ++ leftOverLine rest)
+    (no-words (wordsIn rest) (omega (arith, words-length rest)))
+    ∙ ap (λ (calls : List Call). linesFrom l calls ++ leftOverLine rest) (calls-none l)

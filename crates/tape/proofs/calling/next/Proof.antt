@@ -1,0 +1,84 @@
+-- `calling::next` meets its contract: the words that the first one's kind wants, or all that are left, are the call's.
+use mathlib.Core.Path.{sym}
+use native.Mathlib.Omega.{arith}
+use denote.Ref.{now}
+use lib.ListN.{length, replicate}
+use lib.Seq.{length-take-le}
+use Rattle.slices.proofs.Over.{over-front}
+use Rattle.sheet.specs.Record.{ledgerOf}
+use Rattle.tape.specs.Bytes.{wordsWithin}
+use Rattle.tape.proofs.Bytes.{within-length}
+use Rattle.tape.proofs.Picked.{next-call, next-used, stepped}
+use borrow.Author.Needs.{needs}
+use Rattle.tape.proofs.calling.next.Statement.{statement}
+use Rattle.tape.proofs.calling.next.Tie as tie
+
+word-requires : tie.Need-word-requires
+word-requires c κs = search needs
+
+unknowns-requires : tie.Need-unknowns-requires
+unknowns-requires c κs = search needs
+
+call-length-requires : tie.Need-call-length-requires
+call-length-requires c κs = search needs
+
+least-requires : tie.Need-least-requires
+least-requires c κs = search needs
+
+slice-aggregate-words : tie.Need-slice-aggregate-words
+slice-aggregate-words c = search needs
+
+words-requires : tie.Need-words-requires
+words-requires c κs = search needs
+
+array-share-prefix-taken : tie.Need-array-share-prefix-taken
+array-share-prefix-taken c = search needs
+
+slice-aggregate-call : tie.Need-slice-aggregate-call
+slice-aggregate-call c =
+    let z = c .before .before .before .before .before .before .before .before .before .before in
+    sym (length-take-le (c .before .before .before .before .least .result) (c .before .before .words .last .1 .1 .0) (search needs))
+
+call-requires : tie.Need-call-requires
+call-requires c κs = search needs
+
+mul-t10 : tie.Need-mul-t10
+mul-t10 c = search needs
+
+same-length : tie.Need-same-length
+same-length c = search needs
+
+returns : tie.Need-returns
+returns c =
+    let z = c .before .before .before .before .before .before .before .before .before .before .before .before .before .before .before in
+    let rest = now (z .args .rest) in
+    let l = ledgerOf (z .args .sheet) in
+    let first = c .before .before .before .before .before .before .before .before .before .before .before .before .word in
+    let length = c .before .before .before .before .before .before .before .before .before .before .call-length in
+    let count = c .before .before .before .before .before .before .before .before .before .least in
+    let words = c .before .before .before .before .before .before .before .words in
+    let told = c .before .before .before .call in
+    let wants = length .ensures .1 l (sym (c .before .before .before .before .before .before .before .before .before .before .before .unknowns .ensures .0)) in
+    let front = over-front (count .result) (wordsWithin (count .result) rest) (replicate 273 0) (words .ensures)
+    (within-length (count .result) rest) in
+    stepped (z .args .sheet) rest (z .args .out .now)
+    (next-call l rest (z .pre .0) (first .result) (length .result) (count .result) _ (first .ensures) wants (count .ensures) front)
+    (next-used l rest (z .pre .0) (first .result) (length .result) (count .result) _ (first .ensures) wants (count .ensures) front)
+    (told .ensures .0) (told .ensures .1)
+
+pub next-spec : {M : Type 1} → statement M
+next-spec =
+    tie.close
+    (tie.spec
+    word-requires
+    unknowns-requires
+    call-length-requires
+    least-requires
+    slice-aggregate-words
+    words-requires
+    array-share-prefix-taken
+    slice-aggregate-call
+    call-requires
+    mul-t10
+    same-length
+    returns)
