@@ -16,6 +16,7 @@ use Rattle.system.specs.Block.{blockOf}
 use Rattle.safe.specs.declared.Turned.{Turned}
 use Rattle.safe.specs.declared.Turned.the-variants.{Wrote, NoTurns}
 use Rattle.safe.specs.declared.Turned.the-variants.{Refused as Turned·Refused}
+use Rattle.tape.specs.Lines.{mostBytes, lines}
 use Rattle.milebadger.specs.Reply.{Reply, gives, refuses}
 
 -- 1, and the divisor with the number of divisions
@@ -60,3 +61,11 @@ unfoldable pub turnedResult : Turned → ℤ
 turnedResult (Wrote k) = pos k
 turnedResult NoTurns = pos 0
 turnedResult (Turned·Refused k) = negℤ (pos k)
+
+-- "C call: 10 as for the tape." Its other question, 8, every reply asks.
+abbrev pub tapeQuestions : List ℕ → List Question
+tapeQuestions bytes = asks 10 (leb (length bytes) mostBytes) ∷ []
+
+-- "hands over tape bytes and a byte buffer and gets these lines: the result is the bytes written"
+unfoldable pub tapeReply : List ℕ → Reply
+tapeReply bytes = unlessRefused refuses (firstNo (tapeQuestions bytes)) (blockReply (lines bytes))

@@ -5,8 +5,9 @@ mod replying;
 ghost use mathlib.Core.Path.{_≡_};
 ghost use Rattle.safe.specs.Calls.{turnedOf, bufferAfter};
 ghost use Rattle.milebadger.specs.Reply.{Replied};
-ghost use Rattle.milebadger.specs.Calls.{gcdReply, congruenceReply, solveReply, turnedResult};
+ghost use Rattle.milebadger.specs.Calls.{gcdReply, congruenceReply, solveReply, tapeReply, turnedResult};
 use asking::refusal;
+use replying::TOO_SHORT;
 use replying::give;
 use replying::give_block;
 use replying::refuse;
@@ -16,6 +17,9 @@ use residue::euclid::gcd;
 use safe::Turned;
 use safe::solve as solve_safe;
 use system::solving::solve;
+use tape::running::LARGEST;
+use tape::running::count;
+use tape::running::write;
 
 // Euclid's chain: the divisor of a and b and the number of divisions made.
 #[no_mangle]
@@ -75,4 +79,20 @@ pub extern "C" fn milebadger_safe(
         Turned::NoTurns => 0,
         Turned::Refused(number) => refuse(number),
     }
+}
+
+// A tape of calls from a fresh sheet: its lines. Where they do not all fit, nothing is written.
+#[no_mangle]
+pub extern "C" fn milebadger_tape(tape: &[u8], out: &mut [u8]) -> i64
+    ensures { λ r. ⌜ Replied (tapeReply (now (tape .entry))) (now (out .entry)) (now (out .exit)) r ⌝ }
+{
+    if tape.len() > LARGEST {
+        return refuse(10);
+    }
+    let size = count(tape);
+    if out.len() < size {
+        return TOO_SHORT;
+    }
+    write(tape, out);
+    size as i64
 }

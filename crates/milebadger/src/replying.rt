@@ -8,7 +8,7 @@ ghost use Rattle.milebadger.specs.Calls.{blockReply};
 use slices::copying::copy;
 
 // The result where the memory is too short for the numbers: "Buffer long enough for this block? 8".
-const TOO_SHORT: i64 = -8;
+pub(crate) const TOO_SHORT: i64 = -8;
 
 // The result, with its numbers written; or minus 8, with nothing written, where the memory is too short for them.
 pub(crate) fn give(result: u32, numbers: &[u32], out: &mut [u32]) -> i64
