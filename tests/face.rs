@@ -15,6 +15,7 @@ extern "C" {
         out: *mut u32,
         out_len: usize,
     ) -> i64;
+    fn milebadger_tape(tape: *const u8, tape_len: usize, out: *mut u8, out_len: usize) -> i64;
 }
 
 /// What a call gave back: its result, and the lent memory after it.
@@ -88,3 +89,27 @@ pub fn safe(m: u32, rows: u32, columns: u32, values: &[u32], len: usize) -> Repl
 
 /// The longest answer block: a head, a start and 16 steps of 16 numbers.
 pub const LONGEST_BLOCK: usize = 1 + 17 * 16;
+
+/// What the tape's call gave back: its result, and the lent bytes after it.
+#[derive(Clone, Debug, PartialEq)]
+pub struct Printed {
+    pub result: i64,
+    pub memory: Vec<u8>,
+}
+
+/// What lent bytes hold before a call; none of them is a byte of a line.
+pub fn untouched_bytes(len: usize) -> Vec<u8> {
+    (0..len).map(|place| 0x80 + (place % 127) as u8).collect()
+}
+
+pub fn tape(tape: &[u8], len: usize) -> Printed {
+    const GUARD: [u8; 16] = [0xFA; 16];
+    let given = [&GUARD[..], tape, &GUARD].concat();
+    let mut lent = [&GUARD[..], &untouched_bytes(len), &GUARD].concat();
+    let before = given.clone();
+    let result = unsafe { milebadger_tape(given[16..].as_ptr(), tape.len(), lent[16..].as_mut_ptr(), len) };
+    assert_eq!(given, before, "the tape was written");
+    assert_eq!(lent[..16], GUARD, "written in front of the lent memory");
+    assert_eq!(lent[16 + len..], GUARD, "written behind the lent memory");
+    Printed { result, memory: lent[16..16 + len].to_vec() }
+}
