@@ -7,11 +7,14 @@
  *     0            where there is nothing to write,
  *     -1 to -6     where a question about its arguments has the answer no: the first such question's number. Each call lists
  *                  its questions in their order,
- *     -8           where `out` is too short for the numbers. Asked last, and only where numbers would be written.
- * At 0 and at a negative result `out` keeps its content. Past the numbers it always does.
+ *     -8           where `out` is too short for the numbers. Asked last, and only where numbers would be written,
+ *     -10          where a tape is too long.
+ * At 0 and at a negative result `out` keeps its content. Past the numbers it always does. A tape's call writes bytes where the
+ * others write numbers.
  *
- * Memory. `out` points to `out_len` numbers that are the caller's and that nobody else uses during the call. `lines` and `values`
- * point to `lines_len` and `values_len` numbers that nobody writes meanwhile; they do not overlap `out`.
+ * Memory. `out` points to `out_len` numbers, or bytes, that are the caller's and that nobody else uses during the call. `lines`,
+ * `values` and `tape` point to as many numbers, or bytes, as their lengths say, which nobody writes meanwhile; they do not overlap
+ * `out`. A length may be 0: the pointer then leads to something of the caller's all the same, and nothing is read or written.
  */
 #ifndef MILEBADGER_H
 #define MILEBADGER_H
@@ -72,8 +75,44 @@ int64_t milebadger_solve(uint32_t m, uint32_t n, const uint32_t *lines, size_t l
 int64_t milebadger_safe(uint32_t m, uint32_t rows, uint32_t columns, const uint32_t *values, size_t values_len, uint32_t *out,
                         size_t out_len);
 
-/* A word of kind 6, "vector entry": the kind in the top 4 bits, the number in the low 28. And the number of a word. */
-#define MILEBADGER_ENTRY(number) (UINT32_C(0x60000000) | (uint32_t)(number))
+/* A tape of calls on one sheet, which begins unopened. A tape is words, each 4 bytes with the low byte first. The first word's kind
+ * picks a call and with it how many words the call takes; the next call begins behind them. Each call gives a line, an answer
+ * one or more; every line ends in one byte 0x0A.
+ *
+ *     words                                         line                  what the call does
+ *     MODULUS(m), UNKNOWNS(n)                       open m n              opens the sheet: m from 2 to 65,535, n from 1 to 16,
+ *                                                                         no equations
+ *     n times COEFFICIENT(a), RIGHT(b)              added k               adds an equation, 16 at most; k are then held
+ *     STRIKE                                        struck k              takes the last equation off; k are then held
+ *     ANSWER                                        from .., step ..      the starting vector, then each step, n entries each;
+ *                                                   or none ..            or a multiplier for each equation
+ *     HEAD(h), h times n times ENTRY(x)             pass, or fail         marks a claim: h is 0 for "no solution", or counts a
+ *                                                                         starting vector and its steps, 17 at most
+ *     any of these, refused                         refused r             nothing; r is a number of the table below
+ *
+ * (Each name with MILEBADGER_ in front.) A call that is cut short by the end of the tape is refused with 1, and so is a first word
+ * of another kind, which takes one word. Bytes left over behind the last word give `refused 9` as the last line.
+ *
+ *     refused   1  wrong shape, or an ANSWER or STRIKE with a number other than 0     5  there are 16 equations
+ *               2  m is not 2..65,535                                               6  a number is not below m
+ *               3  n is not 1..16                                                   7  no equation to strike
+ *               4  not opened                                                       9  1 to 3 bytes left over
+ *
+ * Asks     tape_len at most 65,536? If not, -10.
+ * Needs    out_len at least the length of all lines together.
+ * Writes   the lines.
+ * Returns  how many bytes the lines are, which may be 0; or -10, -8. */
+int64_t milebadger_tape(const uint8_t *tape, size_t tape_len, uint8_t *out, size_t out_len);
+
+/* Words: the kind in the top 4 bits, the number in the low 28. And the number of a word. */
+#define MILEBADGER_MODULUS(m) (UINT32_C(0x10000000) | (uint32_t)(m))
+#define MILEBADGER_UNKNOWNS(n) (UINT32_C(0x20000000) | (uint32_t)(n))
+#define MILEBADGER_COEFFICIENT(a) (UINT32_C(0x30000000) | (uint32_t)(a))
+#define MILEBADGER_RIGHT(b) (UINT32_C(0x40000000) | (uint32_t)(b))
+#define MILEBADGER_HEAD(h) (UINT32_C(0x50000000) | (uint32_t)(h))
+#define MILEBADGER_ENTRY(x) (UINT32_C(0x60000000) | (uint32_t)(x))
+#define MILEBADGER_STRIKE UINT32_C(0x80000000)
+#define MILEBADGER_ANSWER UINT32_C(0x90000000)
 #define MILEBADGER_NUMBER(word) ((uint32_t)(word) & UINT32_C(0x0FFFFFFF))
 
 #ifdef __cplusplus
