@@ -9,3 +9,4 @@ pub mod Answered
 pub mod Picked
 pub mod Runs
 pub mod Joined
+pub mod Promises
