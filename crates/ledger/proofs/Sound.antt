@@ -1,14 +1,14 @@
 -- What the questions let into a ledger, `ledger-sound`: an opened ledger has nothing else in it.
 use mathlib.Core.Path.{_≡_, subst, _∙_}
 use mathlib.Core.List.{List, [], _∷_, _++_}
-use Prim.Native.Nat.{ℕ, zero, suc, _+_, _-_, _<_, _≤_}
+use Prim.Native.Nat.{ℕ, zero, suc, _+_, _-_, _<_}
 use native.Mathlib.Omega.{arith}
 use lib.Dec.{ltb→lt}
 use lib.ListN.{length, take, length-append, length-map}
 use lib.Seq.{length-take-le}
 use Rattle.residue.specs.Questions.{largestModulus}
 use Rattle.equations.specs.Vectors.{Below}
-use Rattle.equations.specs.Equation.{Equation, Shaped}
+use Rattle.equations.specs.Equation.{Equation}
 use Rattle.equations.proofs.Truth.{true-of}
 use Rattle.equations.proofs.Vectors.{all-below, below-take, below-at}
 use Rattle.equations.proofs.Lines.{shaped-snoc, shaped-take}

@@ -1,7 +1,6 @@
 -- The answer block in words. Definitions only.
 use mathlib.Core.List.{List, [], _∷_}
 use Prim.Native.Nat.{ℕ, zero, suc}
-use Rattle.equations.specs.Equation.{Equation}
 use Rattle.system.specs.Block.{blockOf}
 use Rattle.words.specs.Words.{word, wordsOf, headKind, entryKind, multiplierKind}
 use Rattle.ledger.specs.Ledger.{Ledger, unopened, opened}

@@ -1,6 +1,6 @@
 -- The questions of document 01 about a call, asked of the ledger and the call's arguments, in the paper's order.
 -- Definitions only.
-use mathlib.Core.Bool.{Bool, true, false, _&&_}
+use mathlib.Core.Bool.{Bool, false, _&&_}
 use mathlib.Core.List.{List, [], _∷_}
 use Prim.Native.Nat.{ℕ}
 use lib.Dec.{eqb, leb, ltb}

@@ -1,18 +1,16 @@
 -- An accepted answer is right: what demand 3 says of it.
 --   answered-accepted, buffer-accepted    what an accepted answer gives back, and makes of the buffer
 --   right-answer                          it is right for the ledger's equations
-use mathlib.Core.Path.{_≡_, refl, sym, ap, _∙_}
-use mathlib.Core.Logic.{_↔_, Iff·trans, ⊎-elim}
-use mathlib.Core.List.{List, _∷_, _++_, flatten}
-use mathlib.Core.Option.{none, some}
-use Prim.Native.Nat.{ℕ, suc, _<_}
-use lib.ListN.{length, getD}
+use mathlib.Core.Path.{_≡_}
+use mathlib.Core.Logic.{Iff·trans, ⊎-elim}
+use mathlib.Core.List.{List}
+use mathlib.Core.Option.{none}
+use Prim.Native.Nat.{ℕ, _<_}
+use lib.ListN.{length}
 use Rattle.slices.specs.Over.{over}
 use Rattle.equations.specs.Equation.{Equation, Shaped}
-use Rattle.equations.specs.Answer.{startOf, stepsOf}
 use Rattle.equations.proofs.Answer.{start-found}
 use Rattle.equations.proofs.Promises.{no-start}
-use Rattle.words.specs.Words.{word, wordsOf, headKind, entryKind, multiplierKind}
 use Rattle.ledger.specs.Ledger.{Ledger, opened}
 use Rattle.ledger.specs.Block.{answerWords}
 use Rattle.ledger.specs.Calls.{Call}
@@ -20,7 +18,7 @@ use Rattle.ledger.specs.Questions.{refusalOf}
 use Rattle.ledger.proofs.Answer.{answer-some, answer-none, answer-head}
 use Rattle.sheet.specs.declared.answering.Answered.the-variants.{Wrote}
 use Rattle.sheet.specs.Calls.{answeredOf, bufferAfter}
-use Rattle.sheet.specs.Promises.{NothingSolves, RightBlock, Shown}
+use Rattle.sheet.specs.Promises.{RightBlock, Shown}
 
 module _ (l : Ledger) (c : Call) (accepted : refusalOf l c ≡ 0) where
   pub answered-accepted : answeredOf l c ≡ Wrote (length (answerWords l))

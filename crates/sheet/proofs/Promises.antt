@@ -31,7 +31,7 @@ use Rattle.sheet.specs.declared.answering.Answered.the-variants.{Refused
 use Rattle.sheet.specs.Record.{ledgerOf}
 use Rattle.sheet.specs.Calls.{turnOf, enteredOf, answeredOf, bufferAfter, markedOf}
 use Rattle.sheet.specs.History.{after}
-use Rattle.sheet.specs.Promises.{NothingSolves, RightBlock, Shown, RightMark, Promised, Demand3, DecidedAlways, OwnBlockPasses}
+use Rattle.sheet.specs.Promises.{NothingSolves, Shown, RightMark, Promised, Demand3, DecidedAlways, OwnBlockPasses}
 use Rattle.sheet.proofs.History.{after-reads, left-refused}
 use Rattle.sheet.proofs.Answers.{buffer-accepted, right-answer, right-block}
 use Rattle.sheet.proofs.Marks.{right-mark, own-mark}

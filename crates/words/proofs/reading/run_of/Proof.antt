@@ -1,7 +1,6 @@
 -- `reading::run_of` meets its contract. The invariant: the first i words are of the kind, so that all are if those behind them
 -- are. The measure is what is left.
 use mathlib.Core.Path.{_≡_, sym, ap, _∙_}
-use mathlib.Core.List.{List}
 use Prim.Native.Nat.{ℕ, _≤_, _-_}
 use native.Mathlib.Omega.{arith}
 use borrow.Author.Needs.{needs}
