@@ -1,31 +1,25 @@
 -- What an answer from tape prints, from what it says and writes.
 --   Given, wrote    an answer that says how many words it wrote
 --   said-refused    one that says a refusal prints it
-use mathlib.Core.Path.{_≡_, refl, sym, ap, ap₂, subst, _∙_}
-use mathlib.Core.Logic.{⊎-elim}
+use mathlib.Core.Path.{_≡_, refl, sym, ap, subst, _∙_}
 use mathlib.Core.Bool.{Bool, true, false, cond}
-use mathlib.Core.List.{List, [], _∷_, _++_, flatten}
-use mathlib.Core.Option.{none, some}
-use Prim.Native.Nat.{ℕ, zero, suc, _*_, _≤_, _<_}
+use mathlib.Core.List.{List}
+use mathlib.Core.Option.{some}
+use Prim.Native.Nat.{ℕ, _≤_, _<_}
 use native.Mathlib.Omega.{arith}
 use lib.Dec.{eqb}
-use lib.ListN.{length, take, drop, getD, length-append}
+use lib.ListN.{length, take, drop}
 use borrow.Author.Tests.{eqb-true}
 use Rattle.slices.proofs.Over.{over-front}
-use Rattle.equations.specs.Vectors.{Below}
 use Rattle.equations.specs.Equation.{Equation, Shaped}
-use Rattle.equations.specs.Answer.{startOf, stepsOf}
 use Rattle.equations.specs.Lines.{equationsOf}
-use Rattle.equations.proofs.Vectors.{vector-length, below-mono}
-use Rattle.equations.proofs.Answer.{start-solves, start-found}
-use Rattle.equations.proofs.Listed.{flat-length, steps-vectors}
+use Rattle.equations.proofs.Vectors.{below-mono}
 use Rattle.equations.proofs.Lines.{equations-shaped, equations-count}
 use Rattle.system.specs.Block.{blockOf}
 use Rattle.system.proofs.Block.{block-head, block-below, block-vectors, block-length}
-use Rattle.words.specs.Words.{numbersOfAKind, numbersOf, headKind, entryKind, multiplierKind}
-use Rattle.words.proofs.Words.{number-of-word, numbers-of-words}
+use Rattle.words.specs.Words.{numbersOfAKind, numbersOf}
 use Rattle.ledger.specs.Ledger.{Ledger, opened, modulusOf, unknownsOf, equationsIn}
-use Rattle.ledger.specs.Block.{blockWords, answerWords}
+use Rattle.ledger.specs.Block.{answerWords}
 use Rattle.ledger.specs.Calls.{answersFromTape}
 use Rattle.ledger.specs.Questions.{refusalOf}
 use Rattle.ledger.proofs.Questions.{accepted-yes}

@@ -9,7 +9,7 @@ use Prim.Native.Nat.{ℕ, zero, suc, _+_, _-_, _*_, _/_, _≤_, _<_, min}
 use native.Mathlib.Numerals.{add-one}
 use native.Mathlib.Omega.{arith}
 use lib.ListN.{length, take, drop, getD, set, length-drop}
-use lib.Seq.{drop-drop, drop-nil, take-nil}
+use lib.Seq.{drop-drop}
 use Rattle.slices.specs.Over.{over}
 use Rattle.slices.proofs.Over.{over-one}
 use Rattle.tape.specs.Bytes.{wordAt, wordsWithin, wordsIn}

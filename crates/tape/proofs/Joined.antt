@@ -1,11 +1,11 @@
 -- The pieces that are written a call at a time are the tape's lines.
-use mathlib.Core.Path.{_≡_, sym, ap, ap₂, _∙_}
-use mathlib.Core.List.{List, [], _∷_, _++_, flatten, append-nil}
-use Prim.Native.Nat.{ℕ, _≤_, _<_}
-use lib.ListN.{length, drop}
+use mathlib.Core.Path.{_≡_, sym, ap, _∙_}
+use mathlib.Core.List.{List, _++_, flatten, append-nil}
+use Prim.Native.Nat.{ℕ}
+use lib.ListN.{drop}
 use Rattle.sheet.specs.declared.Sheet.{Sheet}
 use Rattle.sheet.specs.Record.{ledgerOf, fresh}
-use Rattle.tape.specs.Lines.{leftOverLine, lines}
+use Rattle.tape.specs.Lines.{leftOverLine}
 use Rattle.tape.specs.Reader.{linesOn, firstOn, stepOf}
 use Rattle.tape.specs.Printing.{Prints, ends, calls, PrintsLines}
 use Rattle.tape.proofs.Remaining.{remaining, lines-remaining, remaining-step, remaining-end}

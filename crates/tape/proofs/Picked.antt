@@ -1,14 +1,16 @@
 -- The call that a first word's kind picks, and the call that is read from the rest of a tape.
---   picks-open and so on   by each kind
+--   picks-open and so on   by each kind; picks-few and picks-none by those that have no meaning
 --   picked                 what is told of one call is told of the call that is picked
 --   next-call, next-used   the call read, and the bytes of its words
 --   stepped                the reader's step, put together
 use mathlib.Core.Path.{_≡_, refl, sym, ap, _∙_}
+use mathlib.Core.Bool.{cond}
+use mathlib.Core.Logic.{_⊎_, ⊎-elim}
 use mathlib.Core.List.{List}
 use Prim.Native.Nat.{ℕ, _*_, _/_, _≤_, min}
-use native.Mathlib.Omega.{arith}
-use borrow.Author.Tests.{eq-eqb, ne-eqb}
-use lib.ListN.{length, take, getD, length-take}
+use lib.Dec.{eqb}
+use borrow.Author.Tests.{ne-eqb}
+use lib.ListN.{length, getD, length-take}
 use Rattle.slices.specs.Over.{over}
 use Rattle.words.specs.Words.{kindOf}
 use Rattle.ledger.specs.Ledger.{Ledger}
@@ -22,21 +24,35 @@ use Rattle.tape.specs.Calls.{wanted, callFrom, firstCall}
 use Rattle.tape.specs.Reader.{linesOn, toldOf, firstOn, takenFrom, stepOf}
 use Rattle.tape.proofs.Bytes.{words-length, words-first, words-taken}
 
+-- the call as the first word's kind j picks it
+abbrev byKind : ℕ → List ℕ → ℕ → Call
+byKind w ws j =
+    cond (eqb j 1) (opens ws)
+    (cond (eqb j 3) (adds ws)
+    (cond (eqb j 5) (marks ws)
+    (cond (eqb j 8) (strikesFromTape w) (cond (eqb j 9) (answersFromTape w) (meaningless w)))))
+
 module _ (w : ℕ) (ws : List ℕ) where
   pub picks-open : kindOf w ≡ 1 → opens ws ≡ callFrom w ws
-  picks-open is = rw (eq-eqb (kindOf w) 1 is)
+  picks-open is = ap (byKind w ws) (sym is)
 
   pub picks-add : kindOf w ≡ 3 → adds ws ≡ callFrom w ws
-  picks-add is = rw is
+  picks-add is = ap (byKind w ws) (sym is)
 
   pub picks-mark : kindOf w ≡ 5 → marks ws ≡ callFrom w ws
-  picks-mark is = rw is
+  picks-mark is = ap (byKind w ws) (sym is)
 
   pub picks-strike : kindOf w ≡ 8 → strikesFromTape w ≡ callFrom w ws
-  picks-strike is = rw is
+  picks-strike is = ap (byKind w ws) (sym is)
 
   pub picks-answer : kindOf w ≡ 9 → answersFromTape w ≡ callFrom w ws
-  picks-answer is = rw is
+  picks-answer is = ap (byKind w ws) (sym is)
+
+  pub picks-few : (k : ℕ) → k ≡ kindOf w → (k ≡ 0) ⊎ ((k ≡ 2) ⊎ (k ≡ 4)) → meaningless w ≡ callFrom w ws
+  picks-few k same few = ⊎-elim (λ is. of 0 refl is) (⊎-elim (λ is. of 2 refl is) (λ is. of 4 refl is)) few
+    where
+      of : (j : ℕ) → byKind w ws j ≡ meaningless w → k ≡ j → meaningless w ≡ callFrom w ws
+      of j none is = sym none ∙ ap (byKind w ws) (sym is ∙ same)
 
   pub picks-none : (kindOf w ≡ 1 → ⊥) → (kindOf w ≡ 3 → ⊥) → (kindOf w ≡ 5 → ⊥) → (kindOf w ≡ 8 → ⊥) → (kindOf w ≡ 9 → ⊥)
       → meaningless w ≡ callFrom w ws

@@ -11,8 +11,8 @@ use Prim.Native.Nat.{ℕ, zero, suc, _+_, _*_, _/_, _%_, _^_, _≤_, _<_}
 use native.Mathlib.Nat.{eq-zero-or-pos}
 use native.Mathlib.Numerals.{add-one}
 use native.Mathlib.Omega.{arith}
-use lib.ListN.{length, take, drop, getD, set, length-append}
-use lib.Seq.{take-suc, take-length, drop-cons, set-at, append-snoc}
+use lib.ListN.{length, take, getD, set, length-append}
+use lib.Seq.{take-suc, take-length}
 use Rattle.slices.specs.Over.{over}
 use Rattle.slices.proofs.Over.{over-one}
 use Rattle.tape.specs.Text.{decimal, decimal-small, decimal-step, spaced, lineOf}

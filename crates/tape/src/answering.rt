@@ -1,7 +1,7 @@
 // The lines of an answer.
 ghost use mathlib.Core.Path.{_≡_};
 ghost use Prim.Native.Nat.{_+_, _*_, _<_, _≤_};
-ghost use lib.ListN.{length, getD};
+ghost use lib.ListN.{length};
 ghost use Rattle.slices.specs.Over.{over};
 ghost use Rattle.words.specs.Words.{numbersOf};
 ghost use Rattle.system.specs.Claims.{vectorsWithin};

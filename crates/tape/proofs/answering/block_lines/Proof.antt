@@ -1,10 +1,10 @@
 -- `answering::block_lines` meets its contract: one line of multipliers, or the starting vector's line and those of the steps in
 -- the part behind it.
-use mathlib.Core.Path.{_≡_, refl, sym, ap, _∙_}
+use mathlib.Core.Path.{_≡_, sym, ap, _∙_}
 use mathlib.Core.List.{List}
-use Prim.Native.Nat.{ℕ, _+_, _-_, _*_, _≤_}
+use Prim.Native.Nat.{ℕ, _+_, _-_}
 use native.Mathlib.Omega.{arith}
-use lib.ListN.{length, take, drop, getD, length-take}
+use lib.ListN.{length, drop, getD, length-take}
 use Rattle.slices.specs.Over.{over}
 use Rattle.slices.proofs.Parts.{lent-is, lent-length}
 use Rattle.tape.specs.Ascii.{bytesOf}

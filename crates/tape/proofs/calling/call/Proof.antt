@@ -3,7 +3,7 @@ use mathlib.Core.Path.{sym, _∙_}
 use mathlib.Core.Logic.{⊎-elim}
 use native.Mathlib.Omega.{arith}
 use denote.Ref.{now}
-use Rattle.tape.proofs.Picked.{picked, picks-open, picks-add, picks-mark, picks-strike, picks-answer, picks-none}
+use Rattle.tape.proofs.Picked.{picked, picks-open, picks-add, picks-mark, picks-strike, picks-answer, picks-few, picks-none}
 use borrow.Author.Needs.{needs}
 use Rattle.tape.proofs.calling.call.Statement.{statement}
 use Rattle.tape.proofs.calling.call.Tie as tie
@@ -40,7 +40,8 @@ returns c =
     let a = c .before .before .before .before .before .before .before .before .args in
     let told = c .before .before .«open» in
     picked (a .sheet) (a .out .now)
-    (picks-open (a .first) (now (a .taken)) (sym (c .before .before .before .before .before .kind .ensures) ∙ c .before .before .before .before .match .keys1)) (told .ensures .0) (told .ensures .1)
+    (picks-open (a .first) (now (a .taken)) (sym (c .before .before .before .before .before .kind .ensures) ∙ c .before .before .before .before .match .keys1))
+    (told .ensures .0) (told .ensures .1)
 
 same-length-2 : tie.Need-same-length-2
 same-length-2 c = search needs
@@ -50,7 +51,8 @@ returns-2 c =
     let a = c .before .before .before .before .before .before .before .before .args in
     let told = c .before .before .add in
     picked (a .sheet) (a .out .now)
-    (picks-add (a .first) (now (a .taken)) (sym (c .before .before .before .before .before .kind .ensures) ∙ c .before .before .before .before .match .keys2)) (told .ensures .0) (told .ensures .1)
+    (picks-add (a .first) (now (a .taken)) (sym (c .before .before .before .before .before .kind .ensures) ∙ c .before .before .before .before .match .keys2))
+    (told .ensures .0) (told .ensures .1)
 
 same-length-3 : tie.Need-same-length-3
 same-length-3 c = search needs
@@ -60,7 +62,8 @@ returns-3 c =
     let a = c .before .before .before .before .before .before .before .before .args in
     let told = c .before .before .mark in
     picked (a .sheet) (a .out .now)
-    (picks-mark (a .first) (now (a .taken)) (sym (c .before .before .before .before .before .kind .ensures) ∙ c .before .before .before .before .match .keys3)) (told .ensures .0) (told .ensures .1)
+    (picks-mark (a .first) (now (a .taken)) (sym (c .before .before .before .before .before .kind .ensures) ∙ c .before .before .before .before .match .keys3))
+    (told .ensures .0) (told .ensures .1)
 
 same-length-4 : tie.Need-same-length-4
 same-length-4 c = search needs
@@ -70,7 +73,8 @@ returns-4 c =
     let a = c .before .before .before .before .before .before .before .before .args in
     let told = c .before .before .strike in
     picked (a .sheet) (a .out .now)
-    (picks-strike (a .first) (now (a .taken)) (sym (c .before .before .before .before .before .kind .ensures) ∙ c .before .before .before .before .match .keys4)) (told .ensures .0) (told .ensures .1)
+    (picks-strike (a .first) (now (a .taken)) (sym (c .before .before .before .before .before .kind .ensures) ∙ c .before .before .before .before .match .keys4))
+    (told .ensures .0) (told .ensures .1)
 
 same-length-5 : tie.Need-same-length-5
 same-length-5 c = search needs
@@ -80,7 +84,8 @@ returns-5 c =
     let a = c .before .before .before .before .before .before .before .before .args in
     let told = c .before .before .answer in
     picked (a .sheet) (a .out .now)
-    (picks-answer (a .first) (now (a .taken)) (sym (c .before .before .before .before .before .kind .ensures) ∙ c .before .before .before .before .match .keys5)) (told .ensures .0) (told .ensures .1)
+    (picks-answer (a .first) (now (a .taken)) (sym (c .before .before .before .before .before .kind .ensures) ∙ c .before .before .before .before .match .keys5))
+    (told .ensures .0) (told .ensures .1)
 
 same-length-6 : tie.Need-same-length-6
 same-length-6 c = search needs
@@ -100,19 +105,14 @@ returns-7 : tie.Need-returns-7
 returns-7 c =
     let a = c .before .before .before .before .before .before .before .before .args in
     let told = c .before .before .meaningless2 in
+    let kind = c .before .before .before .before .before .kind in
     let ws = now (a .taken) in
-    let none =
-    ⊎-elim
-    (λ one.
-    ⊎-elim
-    (λ is. picks-none (a .first) ws (λ p. omega arith) (λ p. omega arith) (λ p. omega arith) (λ p. omega arith) (λ p. omega arith))
-    (⊎-elim
-    (λ is. picks-none (a .first) ws (λ p. omega arith) (λ p. omega arith) (λ p. omega arith) (λ p. omega arith) (λ p. omega arith))
-    (λ is. picks-none (a .first) ws (λ p. omega arith) (λ p. omega arith) (λ p. omega arith) (λ p. omega arith) (λ p. omega arith)))
-    (one .keys6))
-    (λ range. picks-none (a .first) ws (λ p. omega arith) (λ p. omega arith) (λ p. omega arith) (λ p. omega arith) (λ p. omega arith))
-    (c .before .before .before .before .match .came) in
-    picked (a .sheet) (a .out .now) none (told .ensures .0) (told .ensures .1)
+    picked (a .sheet) (a .out .now)
+    (⊎-elim (λ one. picks-few (a .first) ws (kind .result) (kind .ensures) (one .keys6))
+    (λ range.
+    picks-none (a .first) ws (λ p. omega arith) (λ p. omega arith) (λ p. omega arith) (λ p. omega arith)
+    (λ p. omega arith))
+    (c .before .before .before .before .match .came)) (told .ensures .0) (told .ensures .1)
 
 pub call-spec : {M : Type 1} → statement M
 call-spec =

@@ -1,6 +1,5 @@
 -- `calling::next` meets its contract: the words that the first one's kind wants, or all that are left, are the call's.
 use mathlib.Core.Path.{sym}
-use native.Mathlib.Omega.{arith}
 use denote.Ref.{now}
 use lib.ListN.{length, replicate}
 use lib.Seq.{length-take-le}

@@ -1,6 +1,6 @@
 -- `running::write` meets its contract. The invariant: the lines of the calls so far are at the front of out, in `at` bytes. The
 -- measure is the length of the rest.
-use mathlib.Core.Path.{_≡_, sym, ap, _∙_}
+use mathlib.Core.Path.{_≡_, sym, ap}
 use native.Mathlib.Omega.{arith}
 use lib.ListN.{length, length-take}
 use lib.Seq.{length-take-le}

@@ -1,5 +1,5 @@
 -- `text::line` meets its contract: the name, the numbers in the part behind it, and the byte that ends a line.
-use mathlib.Core.Path.{_≡_, refl, _∙_}
+use mathlib.Core.Path.{refl}
 use Prim.Native.Nat.{_+_}
 use native.Mathlib.Omega.{arith}
 use lib.ListN.{length, length-set}

@@ -1,7 +1,7 @@
 -- `text::spaced_number` meets its contract: `number` writes into the part behind the space.
-use mathlib.Core.Path.{_≡_, _∙_}
+use mathlib.Core.Path.{_∙_}
 use native.Mathlib.Omega.{arith}
-use lib.ListN.{length, set, length-set}
+use lib.ListN.{set, length-set}
 use borrow.Author.Needs.{needs}
 use Rattle.slices.proofs.Parts.{lent-length}
 use Rattle.slices.proofs.Over.{head-then}
