@@ -21,8 +21,7 @@ one-digit : (x : ℕ) → x < 10 → max 1 (digits x) ≡ 1
 one-digit zero h = rw digits-zero
 one-digit (suc x) h =
     let none : suc x / 10 ≡ 0 = omega arith in
-    let one : digits (suc x) ≡ 1 = digits-step (suc x) (omega arith) ∙ ap (λ (k : ℕ). digits k + 1) none ∙ ap (λ (k : ℕ). k + 1) digits-zero in
-    rw one
+    rw (digits-step (suc x) (omega arith), none, digits-zero)
 
 -- a number below 10 is one digit
 pub decimal-small : (x : ℕ) → x < 10 → decimal x ≡ (48 + x) ∷ []

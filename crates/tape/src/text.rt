@@ -64,7 +64,8 @@ fn numbers_into(numbers: &[u32], out: &mut [u8]) -> usize
 // A line at the front of out; how many bytes it has.
 pub(crate) fn line(name: &[u8], numbers: &[u32], out: &mut [u8]) -> usize
     requires { ⌜ length (now name) + 11 * length (now numbers) + 1 ≤ length (now out) ⌝ }
-    ensures { λ r. ⌜ (r ≡ length (lineOf (now (name .entry)) (now (numbers .entry)))) × (r ≤ length (now (name .entry)) + 11 * length (now (numbers .entry)) + 1) ⌝ }
+    ensures { λ r. ⌜ (r ≡ length (lineOf (now (name .entry)) (now (numbers .entry))))
+        × (r ≤ length (now (name .entry)) + 11 * length (now (numbers .entry)) + 1) ⌝ }
     ensures { λ _. ⌜ now (out .exit) ≡ over (lineOf (now (name .entry)) (now (numbers .entry))) (now (out .entry)) ⌝ }
 {
     copy_bytes(name, out);

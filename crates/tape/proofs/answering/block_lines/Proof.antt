@@ -124,7 +124,9 @@ add-result : tie.Need-add-result
 add-result c =
     let z = c .before .before .before .before .before .before .before .before .before .before .before .before .before .before .before in
     let line = c .before .before .before .before .before .before .before .line2 in
-    omega (arith, line .ensures .0 .1, length-take (z .args .n + 1 - 1) (drop 1 (z .args .block .now)), c .before .before .step-lines .ensures .0 .1, z .pre .0 .head, z .pre .0 .unknowns)
+    let part = length-take (z .args .n + 1 - 1) (drop 1 (z .args .block .now)) in
+    let steps = c .before .before .step-lines .ensures .0 .1 in
+    omega (arith, line .ensures .0 .1, z .pre .0 .head, z .pre .0 .unknowns)
 
 same-length-2 : tie.Need-same-length-2
 same-length-2 c = search needs

@@ -39,8 +39,8 @@ returns : tie.Need-returns
 returns c =
     let a = c .before .before .before .before .before .before .before .before .args in
     let told = c .before .before .«open» in
-    picked (a .sheet) (a .out .now)
-    (picks-open (a .first) (now (a .taken)) (sym (c .before .before .before .before .before .kind .ensures) ∙ c .before .before .before .before .match .keys1))
+    let is = sym (c .before .before .before .before .before .kind .ensures) ∙ c .before .before .before .before .match .keys1 in
+    picked (a .sheet) (a .out .now) (picks-open (a .first) (now (a .taken)) is)
     (told .ensures .0) (told .ensures .1)
 
 same-length-2 : tie.Need-same-length-2
@@ -50,8 +50,8 @@ returns-2 : tie.Need-returns-2
 returns-2 c =
     let a = c .before .before .before .before .before .before .before .before .args in
     let told = c .before .before .add in
-    picked (a .sheet) (a .out .now)
-    (picks-add (a .first) (now (a .taken)) (sym (c .before .before .before .before .before .kind .ensures) ∙ c .before .before .before .before .match .keys2))
+    let is = sym (c .before .before .before .before .before .kind .ensures) ∙ c .before .before .before .before .match .keys2 in
+    picked (a .sheet) (a .out .now) (picks-add (a .first) (now (a .taken)) is)
     (told .ensures .0) (told .ensures .1)
 
 same-length-3 : tie.Need-same-length-3
@@ -61,8 +61,8 @@ returns-3 : tie.Need-returns-3
 returns-3 c =
     let a = c .before .before .before .before .before .before .before .before .args in
     let told = c .before .before .mark in
-    picked (a .sheet) (a .out .now)
-    (picks-mark (a .first) (now (a .taken)) (sym (c .before .before .before .before .before .kind .ensures) ∙ c .before .before .before .before .match .keys3))
+    let is = sym (c .before .before .before .before .before .kind .ensures) ∙ c .before .before .before .before .match .keys3 in
+    picked (a .sheet) (a .out .now) (picks-mark (a .first) (now (a .taken)) is)
     (told .ensures .0) (told .ensures .1)
 
 same-length-4 : tie.Need-same-length-4
@@ -72,8 +72,8 @@ returns-4 : tie.Need-returns-4
 returns-4 c =
     let a = c .before .before .before .before .before .before .before .before .args in
     let told = c .before .before .strike in
-    picked (a .sheet) (a .out .now)
-    (picks-strike (a .first) (now (a .taken)) (sym (c .before .before .before .before .before .kind .ensures) ∙ c .before .before .before .before .match .keys4))
+    let is = sym (c .before .before .before .before .before .kind .ensures) ∙ c .before .before .before .before .match .keys4 in
+    picked (a .sheet) (a .out .now) (picks-strike (a .first) (now (a .taken)) is)
     (told .ensures .0) (told .ensures .1)
 
 same-length-5 : tie.Need-same-length-5
@@ -83,8 +83,8 @@ returns-5 : tie.Need-returns-5
 returns-5 c =
     let a = c .before .before .before .before .before .before .before .before .args in
     let told = c .before .before .answer in
-    picked (a .sheet) (a .out .now)
-    (picks-answer (a .first) (now (a .taken)) (sym (c .before .before .before .before .before .kind .ensures) ∙ c .before .before .before .before .match .keys5))
+    let is = sym (c .before .before .before .before .before .kind .ensures) ∙ c .before .before .before .before .match .keys5 in
+    picked (a .sheet) (a .out .now) (picks-answer (a .first) (now (a .taken)) is)
     (told .ensures .0) (told .ensures .1)
 
 same-length-6 : tie.Need-same-length-6

@@ -57,7 +57,8 @@ returns c =
     let count = c .before .before .before .before .before .before .before .before .before .least in
     let words = c .before .before .before .before .before .before .before .words in
     let told = c .before .before .before .call in
-    let wants = length .ensures .1 l (sym (c .before .before .before .before .before .before .before .before .before .before .before .unknowns .ensures .0)) in
+    let unknowns = c .before .before .before .before .before .before .before .before .before .before .before .unknowns in
+    let wants = length .ensures .1 l (sym (unknowns .ensures .0)) in
     let front = over-front (count .result) (wordsWithin (count .result) rest) (replicate 273 0) (words .ensures)
     (within-length (count .result) rest) in
     stepped (z .args .sheet) rest (z .args .out .now)

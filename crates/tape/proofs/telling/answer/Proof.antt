@@ -22,24 +22,27 @@ array-share-prefix-words : tie.Need-array-share-prefix-words
 array-share-prefix-words c =
     let z = c .before .before .before .before .before .before .before in
     let answer = c .before .before .before .answer-from-tape in
-    let given = wrote (z .args .sheet) (z .args .word) (answer .ensures .0) (replicate 273 0) (c .before .answered .given .1)
-    (c .before .before .before .before .before .unknowns .ensures .0) (answer .ensures .1) in
+    let said = c .before .answered .given .1 in
+    let unknowns = c .before .before .before .before .before .unknowns .ensures .0 in
+    let given = wrote (z .args .sheet) (z .args .word) (answer .ensures .0) (replicate 273 0) said unknowns (answer .ensures .1) in
     omega (arith, given .count, length-take (c .before .answered .given .0 .0) (answer .last .1 .1 .0))
 
 slice-aggregate-answer-lines : tie.Need-slice-aggregate-answer-lines
 slice-aggregate-answer-lines c =
     let z = c .before .before .before .before .before .before .before .before in
     let answer = c .before .before .before .before .answer-from-tape in
-    let given = wrote (z .args .sheet) (z .args .word) (answer .ensures .0) (replicate 273 0) (c .before .before .answered .given .1)
-    (c .before .before .before .before .before .before .unknowns .ensures .0) (answer .ensures .1) in
+    let said = c .before .before .answered .given .1 in
+    let unknowns = c .before .before .before .before .before .before .unknowns .ensures .0 in
+    let given = wrote (z .args .sheet) (z .args .word) (answer .ensures .0) (replicate 273 0) said unknowns (answer .ensures .1) in
     given .count
 
 answer-lines-requires : tie.Need-answer-lines-requires
 answer-lines-requires c κs =
     let z = c .before .before .before .before .before .before .before .before .before in
     let answer = c .before .before .before .before .before .answer-from-tape in
-    let given = wrote (z .args .sheet) (z .args .word) (answer .ensures .0) (replicate 273 0) (c .before .before .before .answered .given .1)
-    (c .before .before .before .before .before .before .before .unknowns .ensures .0) (answer .ensures .1) in
+    let said = c .before .before .before .answered .given .1 in
+    let unknowns = c .before .before .before .before .before .before .before .unknowns .ensures .0 in
+    let given = wrote (z .args .sheet) (z .args .word) (answer .ensures .0) (replicate 273 0) said unknowns (answer .ensures .1) in
     (given .block, z .pre)
 
 enum-known-answered-2 : tie.Need-enum-known-answered-2
@@ -55,8 +58,9 @@ returns : tie.Need-returns
 returns c =
     let z = c .before .before .before .before .before .before .before .before .before .before .before .before in
     let answer = c .before .before .before .before .before .before .before .before .answer-from-tape in
-    let given = wrote (z .args .sheet) (z .args .word) (answer .ensures .0) (replicate 273 0) (c .before .before .before .before .before .before .answered .given .1)
-    (c .before .before .before .before .before .before .before .before .before .before .unknowns .ensures .0) (answer .ensures .1) in
+    let said = c .before .before .before .before .before .before .answered .given .1 in
+    let unknowns = c .before .before .before .before .before .before .before .before .before .before .unknowns .ensures .0 in
+    let given = wrote (z .args .sheet) (z .args .word) (answer .ensures .0) (replicate 273 0) said unknowns (answer .ensures .1) in
     let lines = c .before .before .answer-lines in
     told (z .args .sheet) (answersFromTape (z .args .word)) (z .args .out .now) refl (given .lines) (lines .ensures .0)
     (lines .ensures .1)
@@ -67,10 +71,11 @@ same-length-2 c = search needs
 returns-2 : tie.Need-returns-2
 returns-2 c =
     let a = c .before .before .before .before .before .before .before .before .before .before .before .args in
+    let answer = c .before .before .before .before .before .before .before .answer-from-tape in
+    let said = c .before .before .before .before .before .answered2 .given .1 in
     let line = c .before .before .refused in
     told (a .sheet) (answersFromTape (a .word)) (a .out .now) refl
-    (said-refused (a .sheet) (a .word) (c .before .before .before .before .before .before .before .answer-from-tape .ensures .0) (c .before .before .before .before .before .answered2 .given .1)) (line .ensures .0)
-    (line .ensures .1)
+    (said-refused (a .sheet) (a .word) (answer .ensures .0) said) (line .ensures .0) (line .ensures .1)
 
 pub answer-spec : {M : Type 1} → statement M
 answer-spec =

@@ -63,9 +63,12 @@ returns c =
     let a = c .before .before .before .before .before .before .before .before .before .before .before .before .before .before .before .before .args in
     let call = opens (now (a .words)) in
     let turn = c .before .before .before .before .before .before .before .before .before .before .before .before .before .«open» in
-    let none = said-holds (a .sheet) call (turn .ensures) (c .before .before .before .before .before .before .before .before .before .before .enum-told .given .1) in
+    let said = c .before .before .before .before .before .before .before .before .before .before .enum-told .given .1 in
+    let first = c .before .before .before .before .before .before .before .before .number in
+    let second = c .before .before .before .before .before .before .number2 in
     let line = c .before .before .line in
-    let both = ap₂ (λ (m n : ℕ). lineOf (bytesOf "open") (m ∷ n ∷ [])) (c .before .before .before .before .before .before .before .before .number .ensures) (c .before .before .before .before .before .before .number2 .ensures) in
+    let both = ap₂ (λ (m n : ℕ). lineOf (bytesOf "open") (m ∷ n ∷ [])) (first .ensures) (second .ensures) in
+    let none = said-holds (a .sheet) call (turn .ensures) said in
     told (a .sheet) call (a .out .now) (ap (λ (t : Turn). t .sheet) (turn .ensures))
     (both ∙ accepted-told (a .sheet) call none) (line .ensures .0 .0) (line .ensures .1)
 
@@ -77,9 +80,10 @@ returns-2 c =
     let a = c .before .before .before .before .before .before .before .before .before .before .before .args in
     let call = opens (now (a .words)) in
     let turn = c .before .before .before .before .before .before .before .before .«open» in
+    let said = c .before .before .before .before .before .entered .given .1 in
     let line = c .before .before .refused in
     told (a .sheet) call (a .out .now) (ap (λ (t : Turn). t .sheet) (turn .ensures))
-    (said-refused (a .sheet) call (turn .ensures) (c .before .before .before .before .before .entered .given .1)) (line .ensures .0) (line .ensures .1)
+    (said-refused (a .sheet) call (turn .ensures) said) (line .ensures .0) (line .ensures .1)
 
 pub open-spec : {M : Type 1} → statement M
 open-spec =
