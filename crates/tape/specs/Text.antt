@@ -1,5 +1,5 @@
 -- A printed line: its bytes. Two laws say all of `decimal` without counting digits.
-use mathlib.Core.Path.{_≡_, ap, _∙_}
+use mathlib.Core.Path.{_≡_, ap}
 use mathlib.Core.List.{List, [], _∷_, _++_}
 use Prim.Native.Nat.{ℕ, zero, suc, _+_, _/_, _%_, _≤_, _<_, max}
 use native.Mathlib.Omega.{arith}
