@@ -8,6 +8,8 @@
 static void show_lines(const char *title, const uint32_t *words, size_t count)
 {
     uint8_t tape[256], lines[1024];
+    if (count > sizeof tape / 4)
+        return;
     for (size_t i = 0; i < 4 * count; i++)
         tape[i] = (uint8_t)(words[i / 4] >> 8 * (i % 4)); /* low byte first */
     int64_t result = milebadger_tape(tape, 4 * count, lines, sizeof lines);

@@ -3,7 +3,8 @@
  * Every input has its answer: no call fails, loops or reads or writes outside the memory that it is lent.
  *
  * Results. A call returns
- *     more than 0  and has written its numbers to the front of `out`: 1 where they are always as many, else how many they are,
+ *     more than 0  and has written to the front of `out`: 1 from the two calls that always write two numbers, else how many
+ *                  numbers, words or bytes it wrote,
  *     0            where there is nothing to write,
  *     -1 to -6     where a question about its arguments has the answer no: the first such question's number. Each call lists
  *                  its questions in their order,
@@ -15,6 +16,7 @@
  * Memory. `out` points to `out_len` numbers, or bytes, that are the caller's and that nobody else uses during the call. `lines`,
  * `values` and `tape` point to as many numbers, or bytes, as their lengths say, which nobody writes meanwhile; they do not overlap
  * `out`. A length may be 0: the pointer then leads to something of the caller's all the same, and nothing is read or written.
+ * No call keeps anything for the next one; calls with different memory may run at the same time.
  */
 #ifndef MILEBADGER_H
 #define MILEBADGER_H
@@ -56,7 +58,8 @@ int64_t milebadger_congruence(uint32_t a, uint32_t b, uint32_t m, uint32_t *out,
  *          solution is in just one way the starting vector plus t times each step, mod m, with a t from 0 to m / d - 1 for
  *          each; so their number is the product of the m / d.
  *          A head of 0 says that there is no solution. Behind it stand multipliers, one residue for each equation: the
- *          equations so multiplied add up mod m to coefficients that are 0 and a right side that is not.
+ *          equations so multiplied add up mod m to coefficients that are 0 and a right side that is not. Which multipliers,
+ *          is not promised: check them, do not compare them.
  * Returns  how many numbers the block has: 1 + head * n, or 1 + the number of equations; or -2, -3, -1, -5, -6, -8. */
 int64_t milebadger_solve(uint32_t m, uint32_t n, const uint32_t *lines, size_t lines_len, uint32_t *out, size_t out_len);
 
@@ -90,7 +93,9 @@ int64_t milebadger_safe(uint32_t m, uint32_t rows, uint32_t columns, const uint3
  *                                                                         starting vector and its steps, 17 at most
  *     any of these, refused                         refused r             nothing; r is a number of the table below
  *
- * (Each name with MILEBADGER_ in front.) A call that is cut short by the end of the tape is refused with 1, and so is a first word
+ * (Each name with MILEBADGER_ in front.) How many words a call takes, its first word alone decides, and not the kinds of those behind
+ * it: 2, n + 1, 1, 1, and 1 + h times n. COEFFICIENT and HEAD take one word while the sheet is not opened, and so does a HEAD above
+ * 17 at any time. Multipliers are any that refute the equations: check them, do not compare them. A call that is cut short by the end of the tape is refused with 1, and so is a first word
  * of another kind, which takes one word. Bytes left over behind the last word give `refused 9` as the last line.
  *
  *     refused   1  wrong shape, or an ANSWER or STRIKE with a number other than 0     5  there are 16 equations
@@ -99,12 +104,14 @@ int64_t milebadger_safe(uint32_t m, uint32_t rows, uint32_t columns, const uint3
  *               4  not opened                                                       9  1 to 3 bytes left over
  *
  * Asks     tape_len at most 65,536? If not, -10.
- * Needs    out_len at least the length of all lines together.
+ * Needs    out_len at least the length of all lines together. 1,717 bytes for each ANSWER, 14 for each other call and 10 for bytes
+ *          left over are always enough.
  * Writes   the lines.
  * Returns  how many bytes the lines are, which may be 0; or -10, -8. */
 int64_t milebadger_tape(const uint8_t *tape, size_t tape_len, uint8_t *out, size_t out_len);
 
-/* Words: the kind in the top 4 bits, the number in the low 28. And the number of a word. */
+/* Words: the kind in the top 4 bits, the number in the low 28; a number of 2^28 or more would change the kind. And the number of a
+ * word. */
 #define MILEBADGER_MODULUS(m) (UINT32_C(0x10000000) | (uint32_t)(m))
 #define MILEBADGER_UNKNOWNS(n) (UINT32_C(0x20000000) | (uint32_t)(n))
 #define MILEBADGER_COEFFICIENT(a) (UINT32_C(0x30000000) | (uint32_t)(a))

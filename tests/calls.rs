@@ -288,7 +288,7 @@ fn a_claim_that_is_one_step_short_fails_unless_the_others_lead_there() {
 }
 
 #[test]
-fn claims_with_one_entry_changed_are_marked_by_what_they_then_describe() {
+fn claims_changed_in_one_place_are_marked_by_what_they_then_describe() {
     let mut random = Random::new();
     let (mut passed, mut failed) = (0, 0);
     for _ in 0..2_000 {
@@ -316,7 +316,7 @@ fn without_solution_head_0_alone_passes() {
             }
         };
         let found = outcomes(&[entering(&system), vec![mark(&[]), mark(&other)]].concat());
-        let expected = [Outcome::Pass, if other.len() > 17 { Outcome::Refused(1) } else { Outcome::Fail }];
+        let expected = [Outcome::Pass, Outcome::Fail];
         assert_eq!(found[found.len() - 2..], expected, "{system:?}: {other:?} (seed {})", random.seed);
     }
     let (system, _) = random_solvable(&mut random);

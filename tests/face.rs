@@ -104,10 +104,10 @@ pub fn untouched_bytes(len: usize) -> Vec<u8> {
 
 pub fn tape(tape: &[u8], len: usize) -> Printed {
     const GUARD: [u8; 16] = [0xFA; 16];
-    let given = [&GUARD[..], tape, &GUARD].concat();
+    let given = tape.to_vec();
     let mut lent = [&GUARD[..], &untouched_bytes(len), &GUARD].concat();
     let before = given.clone();
-    let result = unsafe { milebadger_tape(given[16..].as_ptr(), tape.len(), lent[16..].as_mut_ptr(), len) };
+    let result = unsafe { milebadger_tape(given.as_ptr(), tape.len(), lent[16..].as_mut_ptr(), len) };
     assert_eq!(given, before, "the tape was written");
     assert_eq!(lent[..16], GUARD, "written in front of the lent memory");
     assert_eq!(lent[16 + len..], GUARD, "written behind the lent memory");

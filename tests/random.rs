@@ -10,7 +10,7 @@ impl Random {
     pub fn new() -> Random {
         let seed = match std::env::var("MILEBADGER_SEED") {
             Ok(text) => text.parse().expect("MILEBADGER_SEED is no number"),
-            Err(_) => 20_240_229,
+            Err(_) => 1_234_567,
         };
         Random { seed, state: seed.wrapping_mul(2).wrapping_add(1) }
     }

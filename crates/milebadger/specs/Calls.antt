@@ -36,8 +36,8 @@ congruenceReply a b m = solvedReply (congruenceOf a b m)
 abbrev pub largestNumber : ℕ
 largestNumber = 4294967295
 
--- "m in 2..4,294,967,295? 2. n 1..16? 3. `lines` a multiple of n+1 long? 1. At most
--- 16 lines? 5. All numbers below m? 6."
+-- Our own call's questions, in this order: m in 2..4,294,967,295? 2. n 1..16? 3. `lines` a multiple of n+1 long? 1. At most
+-- 16 lines? 5. All numbers below m? 6.
 abbrev pub solveQuestions : ℕ → ℕ → List ℕ → List Question
 solveQuestions m n xs =
     asks 2 (leb 2 m && leb m largestNumber)
@@ -47,7 +47,7 @@ solveQuestions m n xs =
     ∷ asks 6 (allBelow m xs)
     ∷ []
 
--- "its result is the numbers written": a block, and how many numbers it has
+-- the numbers of a block, and how many it has
 abbrev pub blockReply : List ℕ → Reply
 blockReply block = gives (length block) block
 

@@ -1,5 +1,5 @@
 // The printer: reads a tape from standard input to its end and writes its lines to standard output, each call's as soon as
-// it is made. A tape may print tens of megabytes, and no buffer holds more than the lines of one call.
+// it is made. A tape may print more than ten megabytes, and no buffer holds more than the lines of one call.
 use libc::STDIN_FILENO;
 use libc::STDOUT_FILENO;
 use sheet::Sheet;
@@ -7,6 +7,7 @@ use tape::calling::next;
 use tape::running::LARGEST;
 use tape::running::left_over;
 
+// A tape that is too long shows in one byte more than it may have.
 fn main() {
     let mut tape = [0u8; 65537];
     let n = io::read_full(STDIN_FILENO, &mut tape);

@@ -9,7 +9,8 @@ use crate::lines::lines_into;
 use system::solving::Answer;
 use system::solving::solve;
 
-// The answer's starting vector is the first turns; its head is 0 where no turns open the safe.
+// The answer's starting vector is the first turns; its head is 0 where no turns open the safe. There are 16 lines of 17 numbers
+// at most.
 pub(crate) fn first_turns(m: u32, columns: usize, values: &[u32]) -> Answer
     requires { ⌜ Lockable m columns (now values) ⌝ }
     ensures { λ r. ⌜ ((rows : ℕ) → rows * columns ≡ length (now (values .entry))

@@ -13,7 +13,7 @@ ghost use mathlib.Core.Path.{_≡_};
 ghost use Rattle.sheet.specs.Record.{fresh};
 
 // The equations lie one behind the other at the front of the cells: as many coefficients as there are unknowns, then the
-// right side.
+// right side. There is room for 16 of them with 16 unknowns.
 pub struct Sheet {
     modulus: u32,
     unknowns: usize,

@@ -21,7 +21,7 @@ use Rattle.tape.specs.Calls.{wanted, firstCall}
 use Rattle.tape.specs.Text.{line, lineOf}
 use Rattle.tape.specs.Lines.{refusedLine, callLines}
 
--- bytes enough for a line of 16 numbers behind a word of four letters
+-- bytes enough for a line of 16 numbers behind a word of four letters: 4 + 16 · 11 + 1
 abbrev pub lineRoom : ℕ
 lineRoom = 181
 

@@ -34,7 +34,7 @@ fn number(x: u32, out: &mut [u8]) -> usize
     at + 1
 }
 
-// A space and a number; how many bytes they are.
+// A space and a number of at most ten digits; how many bytes they are.
 fn spaced_number(x: u32, out: &mut [u8]) -> usize
     requires { ⌜ 11 ≤ length (now out) ⌝ }
     ensures { λ r. ⌜ (r ≡ length (32 ∷ decimal x)) × (r ≤ 11) ⌝ }

@@ -1,4 +1,4 @@
-// Making words.
+// Making words. 268,435,456 is 2^28: the kind stands above it, the number below.
 ghost use mathlib.Core.Path.{_≡_};
 ghost use Prim.Native.Nat.{_<_, _≤_};
 ghost use lib.ListN.{length};
