@@ -16,7 +16,7 @@ use residue::congruence::solve as solve_one;
 use residue::euclid::gcd;
 use safe::Turned;
 use safe::solve as solve_safe;
-use system::solving::solve;
+use system::solving::solve_into;
 use tape::running::LARGEST;
 use tape::running::count;
 use tape::running::write;
@@ -47,7 +47,8 @@ pub extern "C" fn milebadger_congruence(a: u32, b: u32, m: u32, out: &mut [u32])
     }
 }
 
-// A list of equations in n unknowns mod m, each a line of n coefficients and a right side: its answer block.
+// A list of equations in n unknowns mod m, each a line of n coefficients and a right side: its answer block. For few unknowns a
+// small array is cleared.
 #[no_mangle]
 pub extern "C" fn milebadger_solve(m: u32, n: u32, lines: &[u32], out: &mut [u32]) -> i64
     ensures { λ r. ⌜ Replied (solveReply m n (now (lines .entry))) (now (out .entry)) (now (out .exit)) r ⌝ }
@@ -56,9 +57,14 @@ pub extern "C" fn milebadger_solve(m: u32, n: u32, lines: &[u32], out: &mut [u32
     if number != 0 {
         return refuse(number);
     }
-    let answer = solve(m, n as usize, lines);
-    let numbers = answer.numbers;
-    give_block(answer.head, &numbers[..answer.len], out)
+    if n <= 4 {
+        let mut few = [0u32; 20];
+        let block = solve_into(m, n as usize, lines, &mut few);
+        return give_block(block.head, &few[..block.len], out);
+    }
+    let mut numbers = [0u32; 272];
+    let block = solve_into(m, n as usize, lines, &mut numbers);
+    give_block(block.head, &numbers[..block.len], out)
 }
 
 // A safe of rows times columns locks with these values, as words: the first turns that bring all locks to 0.

@@ -1,6 +1,6 @@
 -- Laws about the definitions in specs/, for every crate above.
 -- The kit over any modulus: Congruent, Divides, Negative. Euclid's chain: Induction, Bezout, Columns, Gcd, Lame.
--- A product without a division, and a remainder without a test: Shoup, Masked. Every call's questions: Questions.
+-- A reciprocal and a product without a division, and a remainder without a test: Inverse, Shoup, Masked. Every call's questions: Questions.
 -- One congruence: First, Solutions. What specs/Promises.antt promises: Promises.
 pub mod Congruent
 pub mod Divides
@@ -10,6 +10,7 @@ pub mod Bezout
 pub mod Columns
 pub mod Gcd
 pub mod Lame
+pub mod Inverse
 pub mod Shoup
 pub mod Masked
 pub mod Questions

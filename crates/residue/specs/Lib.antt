@@ -1,5 +1,5 @@
 -- Read in this order: Congruent, Divides, Negative, Euclid, Gcd, Digits, Chain, Bezout,
--- Cofactors, Questions, Congruence, Promises.
+-- Cofactors, Inverse, Questions, Congruence, Promises.
 pub mod Congruent
 pub mod Divides
 pub mod Negative
@@ -9,6 +9,7 @@ pub mod Digits
 pub mod Chain
 pub mod Bezout
 pub mod Cofactors
+pub mod Inverse
 pub mod Questions
 pub mod Congruence
 pub mod Promises

@@ -2,6 +2,7 @@
 // result is always below m; what a function asks of its arguments is only what it computes with.
 ghost use mathlib.Core.Path.{_≡_};
 ghost use Prim.Native.Nat.{_+_, _*_, _/_, _%_, _≤_, _<_};
+ghost use Rattle.residue.specs.Inverse.{inverseOf};
 ghost use Rattle.residue.specs.Negative.{negative};
 use std::num::wrapping_add_u32;
 use std::num::wrapping_sub_u64;
@@ -18,8 +19,16 @@ pub fn negate(a: u32, m: u32) -> u32
     requires { ⌜ 0 < m ⌝ }
     ensures { λ r. ⌜ (r ≡ negative m a % m) × (r < m) ⌝ }
 {
-    let rest = a % m;
+    let rest = remainder(a, m);
     if rest == 0 { 0 } else { m - rest }
+}
+
+// Most numbers are residues already, and then no division is made.
+pub(crate) fn remainder(a: u32, m: u32) -> u32
+    requires { ⌜ 0 < m ⌝ }
+    ensures { λ r. ⌜ (r ≡ a % m) × (r < m) ⌝ }
+{
+    if a < m { a } else { a % m }
 }
 
 pub fn mul(a: u32, b: u32, m: u32) -> u32
@@ -44,22 +53,33 @@ pub fn combine(s: u32, a: u32, t: u32, b: u32, m: u32) -> u32
     mul_add(mul(s, a, m), t, b, m)
 }
 
-// What `mul_by` wants to know of a factor a that is used many times with one modulus: a·2^32 / m.
-pub fn reciprocal(a: u32, m: u32) -> u32
-    requires { ⌜ a < m ⌝ }
-    ensures { λ r. ⌜ r ≡ a * 4294967296 / m ⌝ }
+// What `reciprocal` wants to know of a modulus that is used many times.
+pub fn inverse_of(m: u32) -> u64
+    requires { ⌜ 0 < m ⌝ }
+    ensures { λ r. ⌜ r ≡ inverseOf m ⌝ }
 {
-    (wide(a) * 4294967296 / wide(m)) as u32
+    18446744073709551615 / wide(m)
 }
 
-// Shoup's product, for a factor a with its reciprocal u: the quotient of a·b by m is read off u, without a division, and is
-// at most one too small.
+// What `mul_by` wants to know of a factor a that is used many times with one modulus: a·2^32 / m. It is read off the inverse of m,
+// without a division, and is then at most one too small.
+pub fn reciprocal(a: u32, m: u32, inverse: u64) -> u32
+    requires { ⌜ (a < m) × (inverse ≡ inverseOf m) ⌝ }
+    ensures { λ r. ⌜ r ≡ a * 4294967296 / m ⌝ }
+{
+    let low = (wide(a) * inverse / 4294967296) as u32;
+    let rest = wide(a) * 4294967296 - product(low, m);
+    if rest < wide(m) { low } else { low + 1 }
+}
+
+// Shoup's product, for a factor a with its reciprocal u: the quotient of a·b by m is read off u + 1, without a division, and is
+// at most one too large.
 pub fn mul_by(a: u32, u: u32, b: u32, m: u32) -> u32
     requires { ⌜ (a < m) × (u ≡ a * 4294967296 / m) ⌝ }
     ensures { λ r. ⌜ (r ≡ (a * b) % m) × (r < m) ⌝ }
 {
-    let quotient = (product(u, b) / 4294967296) as u32;
-    reduce_once(product(a, b) - product(quotient, m), m)
+    let quotient = (product(u + 1, b) / 4294967296) as u32;
+    lift(wrapping_sub_u64(product(a, b), product(quotient, m)), m)
 }
 
 // `combine` for two factors with their reciprocals, u that of s and v that of t.
@@ -90,13 +110,19 @@ pub fn reduce(x: u64, m: u32) -> u32
     (x % wide(m)) as u32
 }
 
-// No test, which the processor could not foresee: the high word of x - m is all ones where x is below m, and 0 elsewhere, so
-// that it masks the m to be added back.
 fn reduce_once(x: u64, m: u32) -> u32
     requires { ⌜ x < 2 * m ⌝ }
     ensures { λ r. ⌜ (r ≡ x % m) × (r < m) ⌝ }
 {
-    let difference = wrapping_sub_u64(x, wide(m));
+    lift(wrapping_sub_u64(x, wide(m)), m)
+}
+
+// A difference modulo 2^64, from -m up to m, made a residue. No test, which the processor could not foresee: the high word is all
+// ones where the difference is negative, and 0 elsewhere, so that it masks the m to be added.
+fn lift(difference: u64, m: u32) -> u32
+    requires { ⌜ (difference + m) % 18446744073709551616 < 2 * m ⌝ }
+    ensures { λ r. ⌜ (r ≡ (difference + m) % 18446744073709551616 % m) × (r < m) ⌝ }
+{
     let low = (difference % 4294967296) as u32;
     let high = (difference / 4294967296) as u32;
     wrapping_add_u32(low, m & high)

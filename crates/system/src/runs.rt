@@ -1,27 +1,53 @@
 // The two runs of the elimination: without carried columns for the vectors of the answer, and with one for each equation for
 // the multipliers. A basis is scratch, and has just the size that its rows need.
 ghost use mathlib.Core.Path.{_≡_};
-ghost use Prim.Native.Nat.{_+_, _/_, _≤_};
+ghost use Prim.Native.Nat.{_+_, _*_, _/_, _≤_};
 ghost use lib.ListN.{length, take};
 ghost use Rattle.elimination.specs.Multipliers.{multipliersOf};
 ghost use Rattle.equations.specs.Lines.{equationsOf};
 ghost use Rattle.tableau.specs.Packed.{triangle};
 ghost use Rattle.system.specs.Posed.{Posed};
 ghost use Rattle.system.specs.Model.Reading.{Laid, answerVectors};
+use crate::reading::packed_size;
 use crate::reading::pivot_at;
 use crate::reading::vectors_into;
 use slices::copying::copy;
 use tableau::building::build;
 
+// The first run; the number of vectors. For few unknowns a small array is cleared.
+pub(crate) fn solution(m: u32, n: usize, lines: &[u32], numbers: &mut [u32]) -> usize
+    requires { ⌜ Posed m n (now lines) × (n + n * n ≤ length (now numbers)) ⌝ }
+    ensures { λ r. ⌜ (r ≤ n + 1) × Laid n (answerVectors m n (equationsOf n (now (lines .entry)))) (now (numbers .exit)) r ⌝ }
+{
+    let size = packed_size(n + 1, n + 1);
+    if n <= 4 {
+        let mut small = [0u32; 15];
+        return solution_into(&mut small[..size], numbers, m, n, lines);
+    }
+    let mut basis = [0u32; 153];
+    solution_into(&mut basis[..size], numbers, m, n, lines)
+}
+
+// A second run, with a carried column for each equation; the number of equations.
+pub(crate) fn refutation(m: u32, n: usize, lines: &[u32], numbers: &mut [u32]) -> usize
+    requires { ⌜ Posed m n (now lines) × (16 ≤ length (now numbers)) ⌝ }
+    ensures { λ r. ⌜ (r ≤ 16) × (take r (now (numbers .exit)) ≡ multipliersOf m n (equationsOf n (now (lines .entry)))) ⌝ }
+{
+    let k = lines.len() / (n + 1);
+    let size = packed_size(n + 1, n + 1 + k);
+    if n <= 4 {
+        let mut small = [0u32; 95];
+        multipliers_into(&mut small[..size], numbers, m, n, k, lines);
+        return k;
+    }
+    let mut basis = [0u32; 425];
+    multipliers_into(&mut basis[..size], numbers, m, n, k, lines);
+    k
+}
+
 // Starting vector and steps into out; their number, which is 0 where there is no solution.
-pub(crate) fn solution_into(
-    basis: &mut [u32],
-    out: &mut [u32],
-    m: u32,
-    n: usize,
-    lines: &[u32],
-) -> usize
-    requires { ⌜ Posed m n (now lines) × (length (now basis) ≡ triangle (n + 1) (n + 1)) × (length (now out) ≡ 272) ⌝ }
+fn solution_into(basis: &mut [u32], out: &mut [u32], m: u32, n: usize, lines: &[u32]) -> usize
+    requires { ⌜ Posed m n (now lines) × (length (now basis) ≡ triangle (n + 1) (n + 1)) × (n + n * n ≤ length (now out)) ⌝ }
     ensures { λ r. ⌜ (r ≤ n + 1) × Laid n (answerVectors m n (equationsOf n (now (lines .entry)))) (now (out .exit)) r ⌝ }
 {
     build(basis, lines, m, n, 0);
@@ -32,16 +58,9 @@ pub(crate) fn solution_into(
 }
 
 // The multipliers are the last numbers of the basis: the carried columns of the constant's row.
-pub(crate) fn multipliers_into(
-    basis: &mut [u32],
-    out: &mut [u32],
-    m: u32,
-    n: usize,
-    k: usize,
-    lines: &[u32],
-)
+fn multipliers_into(basis: &mut [u32], out: &mut [u32], m: u32, n: usize, k: usize, lines: &[u32])
     requires { ⌜ Posed m n (now lines) × (k ≡ length (now lines) / (n + 1)) ⌝ }
-    requires { ⌜ (length (now basis) ≡ triangle (n + 1) (n + 1 + k)) × (length (now out) ≡ 272) ⌝ }
+    requires { ⌜ (length (now basis) ≡ triangle (n + 1) (n + 1 + k)) × (16 ≤ length (now out)) ⌝ }
     ensures { λ _. ⌜ take k (now (out .exit)) ≡ multipliersOf m n (equationsOf n (now (lines .entry))) ⌝ }
 {
     build(basis, lines, m, n, k);

@@ -4,6 +4,7 @@ ghost use mathlib.Core.Bool.{not};
 ghost use Prim.Native.Nat.{_+_, _*_, _<_, _≤_};
 ghost use lib.ListN.{length};
 ghost use lib.Dec.{eqb};
+ghost use Rattle.residue.specs.Inverse.{inverseOf};
 ghost use Rattle.equations.specs.Vectors.{Below};
 ghost use Rattle.elimination.specs.Basis.{insert, pivot};
 ghost use Rattle.elimination.specs.Basis.{basis as basisOf};
@@ -15,6 +16,7 @@ ghost use Rattle.system.specs.Posed.{Posed};
 ghost use Rattle.system.specs.Claims.{vectorsOf};
 use crate::reading::packed_size;
 use crate::reading::pivot_at;
+use residue::modular::inverse_of;
 use residue::modular::product;
 use residue::modular::wide;
 use slices::copying::copy;
@@ -63,23 +65,24 @@ fn span(basis: &mut [u32], steps: &[u32], m: u32, n: usize)
     ensures { λ _. ⌜ rows n n (now (basis .exit)) ≡ basisOf m n 0 (vectorsOf n (now (steps .entry))) ⌝ }
 {
     clear(basis, m, n, 0);
+    let inverse = inverse_of(m);
     let mut rest = &steps[..];
     while n <= rest.len() {
-        insert_step(basis, &rest[..n], m, n);
+        insert_step(basis, &rest[..n], m, inverse, n);
         rest = &rest[n..];
     }
 }
 
 // One step put into a basis. It is copied, since the insertion changes its line.
-fn insert_step(basis: &mut [u32], step: &[u32], m: u32, n: usize)
-    requires { ⌜ (n ≤ 16) × (length (now step) ≡ n) × (length (now basis) ≡ triangle n n) ⌝ }
+fn insert_step(basis: &mut [u32], step: &[u32], m: u32, inverse: u64, n: usize)
+    requires { ⌜ (n ≤ 16) × (length (now step) ≡ n) × (length (now basis) ≡ triangle n n) × (inverse ≡ inverseOf m) ⌝ }
     requires { ⌜ Kept m (rows n n (now basis)) × Below m (now step) ⌝ }
     ensures { λ _. ⌜ rows n n (now (basis .exit)) ≡ insert m (rows n n (now (basis .entry))) (now (step .entry)) ⌝ }
     ensures { λ _. ⌜ Kept m (rows n n (now (basis .exit))) ⌝ }
 {
     let mut line = [0u32; 16];
     copy(step, &mut line);
-    insert(basis, &mut line[..n], m, n);
+    insert(basis, &mut line[..n], m, inverse, n);
 }
 
 // Whether at each place the pivots of the two bases multiply to m: no step is missing then.

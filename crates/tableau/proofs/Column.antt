@@ -5,9 +5,10 @@
 --   column-divided                    the pivot divides it
 --   column-reduced                    neither; with `reduction`, its numbers, and `divisor-positive`
 --   column-first                      the row holds nothing yet
---   first-used-up, not-used-up        whether anything is left of the line
+--   column-used-up                    and its new pivot is 1, so that nothing is left of the line
+--   not-both                          a line is used up or it is not
 use mathlib.Core.Path.{_≡_, refl, sym, ap, ap₂, _∙_, subst, subst₂}
-use mathlib.Core.Bool.{true, false}
+use mathlib.Core.Bool.{Bool, true, false}
 use mathlib.Core.List.{List, [], _∷_}
 use Prim.Native.Nat.{ℕ, zero, suc, _+_, _-_, _*_, _/_, _%_, _≤_, _<_}
 use native.Mathlib.Nat.{suc-inj, sub-zero, div-one, zero-mod, mod-self, mod-eq-of-lt}
@@ -187,14 +188,11 @@ nothing-left m (x ∷ w) =
     let e : 0 * x + 0 * x ≡ 0 = omega arith in
     ap₂ {C = List ℕ} (λ y u. y ∷ u) (ap (λ (z : ℕ). z % m) e ∙ zero-mod m) (nothing-left m w)
 
-pub first-used-up : (m g n : ℕ) (W l : List ℕ) → 0 < m → 0 < length W → g ≡ 1 → n ≡ negative m (m / g) % m
-    → l ≡ combine m 0 n (lent 1 W) (lent 1 W) → UsedUp m (putBack 1 W l)
+nothing-inserted : (m g n : ℕ) (W : List ℕ) (B : List (List ℕ)) → g ≡ 1 → n ≡ negative m (m / g) % m
+    → insert m B (combine m 0 n W W) ≡ B
 unfolding negative
-first-used-up m g n [] l pos h e f i B = absurd (omega arith)
-first-used-up m g n (v ∷ W) l pos h e f i B =
-    ap (λ (w : List ℕ). insert m B (drop 1 w)) (put-back-is 1 (v ∷ W) l)
-    ∙ ap (insert m B) (i ∙ ap (λ (k : ℕ). combine m 0 k (lent 1 (v ∷ W)) (lent 1 (v ∷ W))) none ∙ nothing-left m (lent 1 (v ∷ W)))
-    ∙ insert-zeros m (length (lent 1 (v ∷ W))) B
+nothing-inserted m g n W B e f =
+    ap (insert m B) (ap (λ (k : ℕ). combine m 0 k W W) none ∙ nothing-left m W) ∙ insert-zeros m (length W) B
   where
     none : n ≡ 0
     none =
@@ -202,5 +200,23 @@ first-used-up m g n (v ∷ W) l pos h e f i B =
         ∙ ap (λ (k : ℕ). (m - k % m) % m) (div-one m)
         ∙ ap (λ (k : ℕ). (m - k) % m) (mod-self m) ∙ ap (λ (k : ℕ). k % m) (sub-zero m) ∙ mod-self m
 
-pub not-used-up : {A : Type 0} → false ≡ true → A
-not-used-up e = let z : _≡_ {A = ℕ} 0 1 = cc in absurd (omega arith)
+pub column-used-up : (m : ℕ) (c : Bezout) (R W r : List ℕ) → 0 < length R → length R ≡ length W → RowKept m R
+    → Below m W → getD R 0 0 ≡ m → 0 < getD W 0 0 → getD W 0 0 < m → c ≡ bezoutOf m m (getD W 0 0) → c .divisor ≡ 1
+    → r ≡ combine m 0 (c .t) (lent 1 W) (lent 1 W)
+    → UsedUp m R W (set (putBack 1 R r) 0 (c .divisor))
+column-used-up m c R [] r h e k b full pos small is one i = absurd (omega arith)
+column-used-up m c R (v ∷ W) r h e k b full pos small is one i =
+    let n = negative m (m / c .divisor) % m in
+    let l = combine m 0 n (lent 1 (v ∷ W)) (lent 1 (v ∷ W)) in
+    let C = column-first m c n R (v ∷ W) r l h e k b full pos small is refl i refl in
+    record {
+      same = λ B.
+          C .same B
+          ∙ ap {B = List (List ℕ)} (λ w. set (putBack 1 R r) 0 (c .divisor) ∷ w)
+          (ap (λ (w : List ℕ). insert m B (drop 1 w)) (put-back-is 1 (v ∷ W) l)
+          ∙ nothing-inserted m (c .divisor) n (lent 1 (v ∷ W)) B one refl);
+      kept = C .kept;
+    }
+
+pub not-both : {A : Type 0} {b : Bool} → b ≡ true → b ≡ false → A
+not-both t f = let z : _≡_ {A = ℕ} 0 1 = cc in absurd (omega arith)

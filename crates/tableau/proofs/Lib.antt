@@ -3,6 +3,7 @@ pub mod Combined
 pub mod Multiples
 pub mod Stores
 pub mod Packed
+pub mod Cleared
 pub mod Column
 pub mod Walk
 pub mod Walked

@@ -8,9 +8,8 @@ use mathlib.Core.Path.{_≡_, refl, ap, ap₂, _∙_}
 use mathlib.Core.List.{List, _∷_, _++_}
 use Prim.Native.Nat.{ℕ, zero, suc, pred, _+_, _-_, _<_, _≤_}
 use native.Mathlib.Omega.{arith}
-use lib.ListN.{length, take, drop, replicate, length-drop}
+use lib.ListN.{length, take, drop, replicate}
 use lib.Seq.{take-at, drop-at, length-take-le}
-use Rattle.slices.proofs.Parts.{lent, lent-behind}
 use Rattle.elimination.specs.Basis.{empty}
 use Rattle.tableau.specs.Packed.{rows, triangle}
 
@@ -40,12 +39,6 @@ triangle-behind (suc w) l h =
 pub rows-fit : (w l : ℕ) (b : List ℕ) → 0 < w → length b ≡ triangle w l → l ≤ length b
 rows-fit w l b h g = omega (arith, triangle-front w l h)
 
--- the first row is lent and comes back as r; what is lent next is packed as well
-pub behind-length : (w l : ℕ) (b r : List ℕ) → 0 < w → length b ≡ triangle w l → length r ≡ l
-    → length (lent l (r ++ drop l b)) ≡ triangle (w - 1) (l - 1)
-behind-length w l b r h g e =
-    ap length (lent-behind l r (drop l b) e) ∙ length-drop l b ∙ omega (arith, triangle-behind w l h)
-
 pub front-length : (w l : ℕ) (b : List ℕ) → 0 < w → length b ≡ triangle w l → length (take l b) ≡ l
 front-length w l b h g = length-take-le l b (rows-fit w l b h g)
 
@@ -58,7 +51,3 @@ clear-next m k (suc w) r x h g e f =
     let b : suc w + k - 1 ≡ w + k = omega arith in
     rows-behind (suc w) (suc w + k) r x h g
     ∙ (rw (e, a, b) (ap (λ (B : List (List ℕ)). (m ∷ replicate (w + k) 0) ∷ B) (rw a at f)))
-
-pub clear-none : (m k w : ℕ) (s : List ℕ) → w ≡ 0 → rows w (w + k) s ≡ empty m k w
-clear-none m k zero s h = refl
-clear-none m k (suc w) s h = absurd (omega arith)

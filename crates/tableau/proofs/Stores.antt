@@ -1,7 +1,6 @@
 -- Loops and stores that fill a list.
 --   turned-suc            one entry more, turned round
 --   turn-start, turn-next, turn-end   a list filled from its end, an entry in each turn
---   blank-store           zeros with a number stored in front
 --   unit-store            zeros with a 1 stored are a unit vector
 --   unit-past             which has no 1 where its place is behind the end
 use mathlib.Core.Path.{_≡_, refl, sym, ap, ap₂, _∙_}
@@ -53,7 +52,3 @@ pub unit-past : (n i : ℕ) → n ≤ i → replicate n 0 ≡ unit n i
 unit-past zero i h = refl
 unit-past (suc n) zero h = absurd (omega arith)
 unit-past (suc n) (suc i) h = ap {B = List ℕ} (λ z. 0 ∷ z) (unit-past n i (omega arith))
-
-pub blank-store : (n m : ℕ) → 0 < n → set (replicate n 0) 0 m ≡ m ∷ replicate (n - 1) 0
-blank-store zero m h = absurd (omega arith)
-blank-store (suc n) m h = let e : suc n - 1 ≡ n = omega arith in rw e

@@ -61,6 +61,18 @@ module _ (m w l : ℕ) (b₀ L₀ b L : List ℕ) (at j v q : ℕ) (W : Walked m
   walked-row : (length (take q (drop at b)) ≡ q) × RowKept m (take q (drop at b))
   walked-row = (length-take-le q (drop at b) room, kept-front m v q (drop at b) some (W .kept))
 
+  -- the row comes back as r, and nothing is left of the line
+  stop : (r : List ℕ) → length r ≡ q → UsedUp m (take q (drop at b)) (drop j L) r
+      → (rows w l (take at b ++ (r ++ drop q (drop at b))) ≡ insert m (rows w l b₀) L₀)
+      × Kept m (rows w l (take at b ++ (r ++ drop q (drop at b))))
+  stop r r-len used =
+      let rest = drop q (drop at b) in
+      W .finish (r ++ rest)
+      (rows-behind v q r rest some r-len
+      ∙ sym (used .same (rows (v - 1) (q - 1) rest))
+      ∙ ap (λ (B : List (List ℕ)). insert m B (drop j L)) (sym (rows-split v q (drop at b) some)))
+      (subst (Kept m) (sym (rows-behind v q r rest some r-len)) (used .kept, kept-behind m v q (drop at b) some (W .kept)))
+
   -- the row comes back as r, and the line from its entry j on as L′
   module _ (r L′ : List ℕ) (r-len : length r ≡ q) (L′-len : length L′ ≡ q)
       (column : Inserted m (take q (drop at b)) (drop j L) r L′) where
@@ -172,16 +184,11 @@ module _ (m w l : ℕ) (b₀ L₀ b L : List ℕ) (at j end : ℕ) (W : Walked m
       (rw (size, lent-is j L) at column))
 
   -- nothing is left of the line
-  pub walked-stop : (r L′ : List ℕ) → length r ≡ length (take (end - at) (drop at b)) → length L′ ≡ length (lent j L)
-      → Inserted m (take (end - at) (drop at b)) (lent j L) r L′ → UsedUp m L′
+  pub walked-stop : (r : List ℕ) → length r ≡ length (take (end - at) (drop at b))
+      → UsedUp m (take (end - at) (drop at b)) (lent j L) r
       → (rows w l (take at b ++ (r ++ drop (end - at) (drop at b))) ≡ insert m (rows w l b₀) L₀)
       × Kept m (rows w l (take at b ++ (r ++ drop (end - at) (drop at b))))
-  walked-stop r L′ r-len L′-len column used =
-      let N = walked-next r L′ r-len L′-len column in
-      let b′ = take at b ++ (r ++ drop (end - at) (drop at b)) in
-      let u : drop (j + 1) (putBack j L L′) ≡ drop 1 L′ =
-      ap (drop (j + 1)) (put-back-is j L L′) ∙ sym (drop-drop 1 j (take j L ++ L′))
-      ∙ ap (drop 1) (drop-at (take j L) L′ j (length-take-le j L (omega (arith, W .line-size, W .numbers)))) in
-      rw take-append-drop at (N .finish (drop end b′)
-      (sym (ap (insert m (rows (w - (j + 1)) (l - (j + 1)) (drop end b′))) u ∙ used (rows (w - (j + 1)) (l - (j + 1)) (drop end b′))))
-      (N .kept))
+  walked-stop r r-len used =
+      let row = walked-row m w l b₀ L₀ b L at j (w - j) (l - j) W (omega arith) in
+      rw size
+      (stop m w l b₀ L₀ b L at j (w - j) (l - j) W (omega arith) r ((rw size at r-len) ∙ row .0) (rw (size, lent-is j L) at used))

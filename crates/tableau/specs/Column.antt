@@ -14,6 +14,7 @@ pub record Inserted (m : ℕ) (R W R′ W′ : List ℕ) : Type 0 where
   pub kept : RowKept m R′
   pub below : Below m W′
 
--- nothing is left of the line W behind its first entry: put in there, it changes no row
-abbrev pub UsedUp : ℕ → List ℕ → Type 0
-UsedUp m W = (B : List (List ℕ)) → insert m B (drop 1 W) ≡ B
+-- nothing is left of the line W for the rows B behind R: they stay
+pub record UsedUp (m : ℕ) (R W R′ : List ℕ) : Type 0 where
+  pub same : (B : List (List ℕ)) → insert m (R ∷ B) W ≡ R′ ∷ B
+  pub kept : RowKept m R′

@@ -3,6 +3,7 @@
 ghost use mathlib.Core.Path.{_≡_};
 ghost use Prim.Native.Nat.{_+_, _*_, _/_, _%_, _<_};
 ghost use lib.ListN.{length};
+ghost use Rattle.residue.specs.Inverse.{inverseOf};
 ghost use Rattle.residue.specs.Negative.{negative};
 ghost use Rattle.equations.specs.Vectors.{combine, Below};
 use residue::modular::combine_by;
@@ -19,11 +20,11 @@ fn minus(p: u32, u: u32, a: u32, b: u32, m: u32) -> u32
 }
 
 // line ← p·row - line. One product for each entry.
-pub fn reduce(row: &[u32], line: &mut [u32], m: u32, p: u32)
-    requires { ⌜ (p < m) × (length (now row) ≡ length (now line)) × Below m (now line) ⌝ }
+pub fn reduce(row: &[u32], line: &mut [u32], m: u32, inverse: u64, p: u32)
+    requires { ⌜ (p < m) × (length (now row) ≡ length (now line)) × Below m (now line) × (inverse ≡ inverseOf m) ⌝ }
     ensures { λ _. ⌜ now (line .exit) ≡ combine m p (negative m 1 % m) (now (row .entry)) (now (line .entry)) ⌝ }
 {
-    let u = reciprocal(p, m);
+    let u = reciprocal(p, m, inverse);
     let mut i = 0;
     while i < line.len() {
         let x = minus(p, u, row[i], line[i], m);
@@ -33,15 +34,24 @@ pub fn reduce(row: &[u32], line: &mut [u32], m: u32, p: u32)
 }
 
 // row ← s·row + t·line and line ← p·row + n·line, both from the old ones.
-pub fn combine_both(row: &mut [u32], line: &mut [u32], m: u32, s: u32, t: u32, p: u32, n: u32)
-    requires { ⌜ (s < m) × (t < m) × (p < m) × (n < m) × (length (now row) ≡ length (now line)) ⌝ }
+pub fn combine_both(
+    row: &mut [u32],
+    line: &mut [u32],
+    m: u32,
+    inverse: u64,
+    s: u32,
+    t: u32,
+    p: u32,
+    n: u32,
+)
+    requires { ⌜ (s < m) × (t < m) × (p < m) × (n < m) × (length (now row) ≡ length (now line)) × (inverse ≡ inverseOf m) ⌝ }
     ensures { λ _. ⌜ now (row .exit) ≡ combine m s t (now (row .entry)) (now (line .entry)) ⌝ }
     ensures { λ _. ⌜ now (line .exit) ≡ combine m p n (now (row .entry)) (now (line .entry)) ⌝ }
 {
-    let s_reciprocal = reciprocal(s, m);
-    let t_reciprocal = reciprocal(t, m);
-    let p_reciprocal = reciprocal(p, m);
-    let n_reciprocal = reciprocal(n, m);
+    let s_reciprocal = reciprocal(s, m, inverse);
+    let t_reciprocal = reciprocal(t, m, inverse);
+    let p_reciprocal = reciprocal(p, m, inverse);
+    let n_reciprocal = reciprocal(n, m, inverse);
     let mut i = 0;
     while i < row.len() {
         let a = row[i];
@@ -54,20 +64,29 @@ pub fn combine_both(row: &mut [u32], line: &mut [u32], m: u32, s: u32, t: u32, p
     }
 }
 
-// row ← t·line and line ← n·line, both from the old line: a row of zeros combined with the line. Two products for each entry.
-pub fn multiples(row: &mut [u32], line: &mut [u32], m: u32, t: u32, n: u32)
-    requires { ⌜ (t < m) × (n < m) × (length (now row) ≡ length (now line)) ⌝ }
+// row ← t·line: a row of zeros combined with the line. One product for each entry.
+pub fn multiple(row: &mut [u32], line: &[u32], m: u32, inverse: u64, t: u32)
+    requires { ⌜ (t < m) × (length (now row) ≡ length (now line)) × (inverse ≡ inverseOf m) ⌝ }
     ensures { λ _. ⌜ now (row .exit) ≡ combine m 0 t (now (line .entry)) (now (line .entry)) ⌝ }
-    ensures { λ _. ⌜ now (line .exit) ≡ combine m 0 n (now (line .entry)) (now (line .entry)) ⌝ }
 {
-    let t_reciprocal = reciprocal(t, m);
-    let n_reciprocal = reciprocal(n, m);
+    let u = reciprocal(t, m, inverse);
     let mut i = 0;
     while i < line.len() {
-        let b = line[i];
-        let x = mul_by(t, t_reciprocal, b, m);
-        let left = mul_by(n, n_reciprocal, b, m);
+        let x = mul_by(t, u, line[i], m);
         row[i] = x;
+        i += 1;
+    }
+}
+
+// line ← n·line. One product for each entry.
+pub fn scale(line: &mut [u32], m: u32, inverse: u64, n: u32)
+    requires { ⌜ (n < m) × (inverse ≡ inverseOf m) ⌝ }
+    ensures { λ _. ⌜ now (line .exit) ≡ combine m 0 n (now (line .entry)) (now (line .entry)) ⌝ }
+{
+    let u = reciprocal(n, m, inverse);
+    let mut i = 0;
+    while i < line.len() {
+        let left = mul_by(n, u, line[i], m);
         line[i] = left;
         i += 1;
     }

@@ -3,7 +3,7 @@
 use mathlib.Core.Bool.{Bool, true, false, not}
 use mathlib.Core.Path.{_≡_, refl, sym, ap, _∙_}
 use Prim.Native.Nat.{ℕ, _%_, _<_}
-use native.Mathlib.Nat.{mod-lt}
+use native.Mathlib.Nat.{mod-lt, mod-one}
 use native.Mathlib.Omega.{arith}
 use borrow.Author.Needs.{needs}
 use Rattle.residue.specs.Gcd.{gcd, gcd-zero, gcd-step}
@@ -24,23 +24,31 @@ Inv-loop m a b x₀ y₀ s₀ s-next₀ t₀ t-next₀ odd₀ x y s s-next t t-n
 abbrev μ-loop : tie.MeasureT-loop
 μ-loop m a b x₀ y₀ s₀ s-next₀ t₀ t-next₀ odd₀ x y s s-next t t-next odd = y
 
--- the two ends, after an odd and after an even number of divisions
-module _ {m a b x y u u′ v v′ : ℕ} (odd : Bool) (pos : 0 < m) (last : y ≡ 0) (divisor : gcd x y ≡ gcd a b)
-    (first : Column odd m b (cofactors m a b .s) x y u u′) (second : Column (not odd) m a (cofactors m a b .t) x y v v′) where
-  divisor-end : x ≡ gcd a b
-  divisor-end = sym (gcd-zero x) ∙ ap (gcd x) (sym last) ∙ divisor
+bezout-is : (r : Bezout) (g s t : ℕ) → r .divisor ≡ g → r .s ≡ s → r .t ≡ t
+    → r ≡ record { divisor = g; s = s; t = t }
+bezout-is r g s t d e f = rw (← d, ← e, ← f)
 
-  end-odd : odd ≡ true → _≡_ {A = Bezout} (record { divisor = x; s = negative m u % m; t = v % m }) (bezoutOf m a b)
-  unfolding bezoutOf
-  end-odd e =
-      let z = cofactors-bezout m a b pos in
-      rw (divisor-end, column-odd (z .s-small) (rw (e, last) at first), column-even (z .t-small) (rw (e, last) at second))
+divisor-end : (x y : ℕ) {g : ℕ} → y ≡ 0 → gcd x y ≡ g → x ≡ g
+divisor-end x y last divisor = sym (gcd-zero x) ∙ ap (gcd x) (sym last) ∙ divisor
 
-  end-even : odd ≡ false → _≡_ {A = Bezout} (record { divisor = x; s = u % m; t = negative m v % m }) (bezoutOf m a b)
-  unfolding bezoutOf
-  end-even e =
-      let z = cofactors-bezout m a b pos in
-      rw (divisor-end, column-even (z .s-small) (rw (e, last) at first), column-odd (z .t-small) (rw (e, last) at second))
+-- the end of the chain: r has the signs that belong to the columns
+ends : {m a b x y u u′ v v′ : ℕ} (odd : Bool) (r : Bezout) → 0 < m → y ≡ 0 → gcd x y ≡ gcd a b
+    → Column odd m b (cofactors m a b .s) x y u u′ → Column (not odd) m a (cofactors m a b .t) x y v v′
+    → r .divisor ≡ x
+    → (odd ≡ true → (r .s ≡ negative m u % m) × (r .t ≡ v % m))
+    → (odd ≡ false → (r .s ≡ u % m) × (r .t ≡ negative m v % m))
+    → r ≡ bezoutOf m a b
+unfolding bezoutOf
+ends {m} {a} {b} {x} {y} {u} {u′} {v} {v′} true r pos last divisor first second d signs _ =
+    let z = cofactors-bezout m a b pos in
+    bezout-is r _ _ _ (d ∙ divisor-end x y last divisor)
+    (signs refl .0 ∙ sym (column-odd (z .s-small) (rw last at first)))
+    (signs refl .1 ∙ sym (column-even (z .t-small) (rw last at second)))
+ends {m} {a} {b} {x} {y} {u} {u′} {v} {v′} false r pos last divisor first second d _ signs =
+    let z = cofactors-bezout m a b pos in
+    bezout-is r _ _ _ (d ∙ divisor-end x y last divisor)
+    (signs refl .0 ∙ sym (column-even (z .s-small) (rw last at first)))
+    (signs refl .1 ∙ sym (column-odd (z .t-small) (rw last at second)))
 
 loop-holds : tie.Need-loop-holds Inv-loop μ-loop
 loop-holds c =
@@ -78,34 +86,34 @@ loop-again c =
       column-step (not (l .odd)) pos h (l .inv .2),
     )
 
-negate-requires : tie.Need-negate-requires Inv-loop μ-loop
-negate-requires c κs = search needs
+signed-requires : tie.Need-signed-requires Inv-loop μ-loop
+signed-requires c κs = search needs
 
-rem-t20 : tie.Need-rem-t20 Inv-loop μ-loop
-rem-t20 c = search needs
+signed-requires-2 : tie.Need-signed-requires-2 Inv-loop μ-loop
+signed-requires-2 c κs = search needs
 
-rem-t21 : tie.Need-rem-t21 Inv-loop μ-loop
-rem-t21 c = search needs
-
-negate-requires-2 : tie.Need-negate-requires-2 Inv-loop μ-loop
-negate-requires-2 c κs = search needs
-
+-- the division by 1 that is not made
 returns : tie.Need-returns Inv-loop μ-loop
 returns c =
     let l = c .before .before .before .loop in
-    let pos : 0 < c .before .before .before .before .args .m = omega arith in (
-      rw (c .negate .ensures .0)
-          (end-odd (l .odd) pos (omega arith) (l .inv .0) (l .inv .1) (l .inv .2) (c .before .if1 .taken)),
-      (c .negate .ensures .1, mod-lt (l .t) pos),
+    let g = c .signed in
+    let pos : 0 < c .before .before .before .before .args .m = omega arith in
+    let h : 0 < l .y = omega arith in
+    let one : l .y ≡ 1 = omega arith in (
+      ends (not (l .odd)) (g .result) pos (ap (λ (k : ℕ). l .x % k) one ∙ mod-one (l .x))
+          (sym (gcd-step (l .x) (l .y) h) ∙ l .inv .0)
+          (column-step (l .odd) pos h (l .inv .1)) (column-step (not (l .odd)) pos h (l .inv .2))
+          (g .ensures .0 .0) (g .ensures .1 .0) (g .ensures .1 .1),
+      (g .ensures .0 .1, g .ensures .0 .2),
     )
 
 returns-2 : tie.Need-returns-2 Inv-loop μ-loop
 returns-2 c =
     let l = c .before .before .before .loop in
-    let pos : 0 < c .before .before .before .before .args .m = omega arith in (
-      rw (c .negate2 .ensures .0)
-          (end-even (l .odd) pos (omega arith) (l .inv .0) (l .inv .1) (l .inv .2) (c .before .if1 .left)),
-      (mod-lt (l .s) pos, c .negate2 .ensures .1),
+    let g = c .signed2 in (
+      ends (l .odd) (g .result) (omega arith) (omega arith) (l .inv .0) (l .inv .1) (l .inv .2)
+          (g .ensures .0 .0) (g .ensures .1 .0) (g .ensures .1 .1),
+      (g .ensures .0 .1, g .ensures .0 .2),
     )
 
 pub cofactors-spec : {M : Type 1} → statement M
@@ -123,9 +131,7 @@ cofactors-spec =
     add-t-after
     loop-less
     loop-again
-    negate-requires
-    rem-t20
-    rem-t21
-    negate-requires-2
+    signed-requires
+    signed-requires-2
     returns
     returns-2)

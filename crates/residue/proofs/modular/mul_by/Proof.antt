@@ -1,6 +1,7 @@
--- `mul_by` meets its contract: by the laws of Shoup's quotient, what it leaves of a·b is below 2·m.
-use mathlib.Core.Path.{_≡_, _∙_}
+-- `mul_by` meets its contract: by the laws of Shoup's quotient, what it leaves of a·b is from -m up to m.
+use mathlib.Core.Path.{_≡_, ap, _∙_}
 use Prim.Native.Nat.{ℕ, _+_, _-_, _*_, _/_, _%_, _≤_, _<_}
+use native.Mathlib.Nat.{div-lt-iff-lt-mul}
 use native.Mathlib.Omega.{arith}
 use borrow.Author.Needs.{needs}
 use Rattle.residue.proofs.Congruent.{congruent-of}
@@ -8,14 +9,25 @@ use Rattle.residue.proofs.Shoup.{shoup, shoup-low, shoup-high}
 use Rattle.residue.proofs.modular.mul_by.Statement.{statement}
 use Rattle.residue.proofs.modular.mul_by.Tie as tie
 
--- with x = u·b, y = a·b and z = (x / 2^32)·m: z can be taken off y, and leaves less than 2·m and the same remainder
-left-over : {a u b m x y z : ℕ} → a < m → u ≡ a * 4294967296 / m → b < 4294967296
-    → x ≡ u * b → y ≡ a * b → z ≡ x / 4294967296 * m → (z ≤ y) × (y < z + 2 * m) × ((y - z) % m ≡ (a * b) % m)
-left-over {a} {u} {b} {m} {x} {y} {z} small eu below ex ey ez =
+-- one more than the reciprocal is still a number of 32 bits
+reciprocal-small : {a u m : ℕ} → a < m → m < 4294967296 → u ≡ a * 4294967296 / m → u + 1 < 4294967296
+reciprocal-small {a} {u} {m} small fits is =
+    omega (arith, div-lt-iff-lt-mul {k = m} {x = a * 4294967296} {y = 4294967295} (omega arith) .1 (omega arith))
+
+-- with x = (u + 1)·b, y = a·b, z = (x / 2^32)·m and d their difference modulo 2^64: m added to it makes it less than 2·m, with
+-- the remainder of y
+left-over : {a u b m x y z : ℕ} (d : ℕ) → a < m → m < 4294967296 → u ≡ a * 4294967296 / m → b < 4294967296
+    → x ≡ (u + 1) * b → y ≡ a * b → y ≤ 18446744065119617025 → z ≡ x / 4294967296 * m → (d + z) % 18446744073709551616 ≡ y
+    → ((d + m) % 18446744073709551616 < 2 * m) × ((d + m) % 18446744073709551616 % m ≡ (a * b) % m)
+left-over {a} {u} {b} {m} {x} {y} {z} d small fits eu below ex ey bound ez ed =
     let q : z ≡ shoup 4294967296 a b m * m = rw (ez, ex, eu) in
-    let low = shoup-low 4294967296 a b m (omega arith) (omega arith) in
-    let high = shoup-high 4294967296 a b m (omega arith) (omega arith) (omega arith) in
-    (omega arith, omega arith, congruent-of {m = m} {a = y - z} {b = a * b} (x / 4294967296) 0 (omega arith) .same)
+    let low = shoup-low 4294967296 a b m (omega arith) (omega arith) (omega arith) in
+    let high = shoup-high 4294967296 a b m (omega arith) (omega arith) in
+    let e : (d + m) % 18446744073709551616 + z ≡ y + m = omega arith in
+    (omega arith, congruent-of {m = m} {a = (d + m) % 18446744073709551616} {b = a * b} (x / 4294967296) 1 (omega arith) .same)
+
+add-product : tie.Need-add-product
+add-product c = omega (arith, reciprocal-small (c .pre .0) (omega arith) (c .pre .1))
 
 product-requires : tie.Need-product-requires
 product-requires c κs = search needs
@@ -29,34 +41,33 @@ product-requires-2 c κs = search needs
 product-requires-3 : tie.Need-product-requires-3
 product-requires-3 c κs = search needs
 
-sub-reduce-once : tie.Need-sub-reduce-once
-sub-reduce-once c =
-    let start = c .before .before .before in
-    left-over (start .pre .0) (start .pre .1) (omega arith) (c .before .before .product .ensures .0)
-    (c .before .product2 .ensures .0) (c .product3 .ensures .0) .0
+wrapping-sub-u64-requires : tie.Need-wrapping-sub-u64-requires
+wrapping-sub-u64-requires c κs = search needs
 
-reduce-once-requires : tie.Need-reduce-once-requires
-reduce-once-requires c κs =
-    let start = c .before .before .before in
-    let left = left-over (start .pre .0) (start .pre .1) (omega arith) (c .before .before .product .ensures .0)
-    (c .before .product2 .ensures .0) (c .product3 .ensures .0) in
-    omega (arith, left)
+lift-requires : tie.Need-lift-requires
+lift-requires c κs =
+    let start = c .before .before .before .before in
+    left-over (c .wrapping-sub-u64 .result) (start .pre .0) (omega arith) (start .pre .1) (omega arith) (c .before .before .before .product .ensures .0)
+    (c .before .before .product2 .ensures .0) (c .before .before .product2 .ensures .1) (c .before .product3 .ensures .0)
+    (c .wrapping-sub-u64 .ensures) .0
 
 returns : tie.Need-returns
 returns c =
-    let start = c .before .before .before .before in
-    let left = left-over (start .pre .0) (start .pre .1) (omega arith) (c .before .before .before .product .ensures .0)
-    (c .before .before .product2 .ensures .0) (c .before .product3 .ensures .0) in
-    (c .reduce-once .ensures .0 ∙ left .2, c .reduce-once .ensures .1)
+    let start = c .before .before .before .before .before in
+    let left = left-over (c .before .wrapping-sub-u64 .result) (start .pre .0) (omega arith) (start .pre .1) (omega arith) (c .before .before .before .before .product .ensures .0)
+    (c .before .before .before .product2 .ensures .0) (c .before .before .before .product2 .ensures .1)
+    (c .before .before .product3 .ensures .0) (c .before .wrapping-sub-u64 .ensures) in
+    (c .lift .ensures .0 ∙ left .1, c .lift .ensures .1)
 
 pub mul-by-spec : {M : Type 1} → statement M
 mul-by-spec =
     tie.close
     (tie.spec
+    add-product
     product-requires
     cast-quotient
     product-requires-2
     product-requires-3
-    sub-reduce-once
-    reduce-once-requires
+    wrapping-sub-u64-requires
+    lift-requires
     returns)

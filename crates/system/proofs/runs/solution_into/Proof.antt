@@ -15,7 +15,6 @@ use Rattle.system.specs.Posed.{Posed}
 use Rattle.system.specs.Model.Reading.{Readable, Laid, readVectors, answerVectors}
 use Rattle.system.proofs.Rows.{triangle-within}
 use Rattle.equations.proofs.Lines.{equations-shaped}
-use Rattle.system.proofs.Laid.{few}
 use Rattle.system.proofs.Answer.{vectors-solved, vectors-none}
 use Rattle.system.proofs.runs.solution_into.Statement.{statement}
 use Rattle.system.proofs.runs.solution_into.Tie as tie
@@ -90,7 +89,7 @@ vectors-into-requires c κs =
     let a = z .args in
     let b = c .before .before .before .before .before .before .before .build in (
       readable (a .m) (a .n) (a .lines .now) (b .last .0) (z .pre .0) (b .kept .0 ∙ z .pre .1) (b .ensures .1),
-      omega (arith, few (a .n) (z .pre .0 .unknowns), z .pre .0 .unknowns, z .pre .2),
+      z .pre .2,
     )
 
 same-length-2 : tie.Need-same-length-2

@@ -30,7 +30,9 @@ insert-requires c κs =
     let a = z .args in
     let p = c .before .before .before .copy in
     let line = over-front (a .n) (a .step .now) (replicate 16 0) (p .ensures) (z .pre .0 .1) in
-    insert-asks (a .m) (a .n) _ (a .step .now) line (z .pre .0 .1) (a .basis .now) (z .pre .0 .2) (z .pre .1 .0) (z .pre .1 .1)
+    let asked = insert-asks (a .m) (a .n) _ (a .step .now) line (z .pre .0 .1) (a .basis .now) (z .pre .0 .2) (z .pre .1 .0)
+    (z .pre .1 .1) in
+    ((asked .0 .0, asked .0 .1, z .pre .0 .3), asked .1)
 
 same-length : tie.Need-same-length
 same-length c = search needs

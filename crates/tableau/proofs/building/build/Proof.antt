@@ -12,11 +12,11 @@ use Rattle.tableau.proofs.building.build.Statement.{statement}
 use Rattle.tableau.proofs.building.build.Tie as tie
 
 abbrev Inv-loop : tie.InvT-loop
-Inv-loop basis₀ lines m n k width rest₀ i₀ basis rest i =
+Inv-loop basis₀ lines m n k inverse width rest₀ i₀ basis rest i =
     (width ≡ n + 1) × (length basis ≡ length basis₀) × Built m n k lines basis rest i
 
 abbrev μ-loop : tie.MeasureT-loop
-μ-loop basis₀ lines m n k width rest₀ i₀ basis rest i = length rest
+μ-loop basis₀ lines m n k inverse width rest₀ i₀ basis rest i = length rest
 
 add-clear : tie.Need-add-clear Inv-loop μ-loop
 add-clear c = search needs
@@ -24,14 +24,17 @@ add-clear c = search needs
 clear-requires : tie.Need-clear-requires Inv-loop μ-loop
 clear-requires c κs = search needs
 
+inverse-of-requires : tie.Need-inverse-of-requires Inv-loop μ-loop
+inverse-of-requires c κs = search needs
+
 add-width : tie.Need-add-width Inv-loop μ-loop
 add-width c = search needs
 
 loop-holds : tie.Need-loop-holds Inv-loop μ-loop
 loop-holds c =
-    let z = c .before .before .before .before .before .before in
+    let z = c .before .before .before .before .before .before .before in
     let a = z .args in
-    let o = c .before .before .clear in (
+    let o = c .before .before .before .clear in (
       omega arith,
       search needs,
       built-start (a .m) (a .n) (a .k) (a .lines .now) (o .last .0) (omega arith) (z .pre .4) (o .kept .0 ∙ z .pre .3) (o .ensures),
@@ -39,16 +42,16 @@ loop-holds c =
 
 slice-aggregate-insert-equation : tie.Need-slice-aggregate-insert-equation Inv-loop μ-loop
 slice-aggregate-insert-equation c =
-    let a = c .before .before .before .before .before .before .before .before .before .before .args in
+    let a = c .before .before .before .before .before .before .before .before .before .before .before .args in
     sym (length-take-le (a .n + 1) (c .before .before .before .loop .rest .now) (omega arith))
 
 insert-equation-requires : tie.Need-insert-equation-requires Inv-loop μ-loop
 insert-equation-requires c κs =
-    let z = c .before .before .before .before .before .before .before .before .before .before in
+    let z = c .before .before .before .before .before .before .before .before .before .before .before in
     let a = z .args in
     let l = c .before .before .before .loop in
     let B = l .inv .2 in (
-      (omega arith, omega arith, omega arith, B .size),
+      (omega arith, omega arith, omega arith, B .size, c .before .before .before .before .inverse-of .ensures),
       (
         length-take-le (a .n + 1) (l .rest .now) (omega arith),
         below-take (a .m) (a .n + 1) (l .rest .now) (B .below),
@@ -76,7 +79,7 @@ loop-less c = search needs
 
 loop-again : tie.Need-loop-again Inv-loop μ-loop
 loop-again c =
-    let z = c .before .before .before .before .before .before .before .before .before .before .before .before .before .before in
+    let z = c .before .before .before .before .before .before .before .before .before .before .before .before .before .before .before in
     let a = z .args in
     let l = c .before .before .before .before .before .before .before .loop in
     let o = c .before .before .before .insert-equation in (
@@ -91,7 +94,7 @@ same-length c = search needs
 
 returns : tie.Need-returns Inv-loop μ-loop
 returns c =
-    let a = c .before .before .before .before .before .before .before .before .args in
+    let a = c .before .before .before .before .before .before .before .before .before .args in
     let l = c .before .loop in
     let B = l .inv .2 in
     (built-end (a .m) (a .n) (a .k) (a .lines .now) (l .basis) (l .rest .now) (l .i) B (omega arith), B .kept)
@@ -104,6 +107,7 @@ build-spec =
     μ-loop
     add-clear
     clear-requires
+    inverse-of-requires
     add-width
     loop-holds
     slice-aggregate-insert-equation

@@ -73,7 +73,7 @@ insert-requires c κs =
     let l = c .before .before .before .load in
     let e = take-at (l .last .0) (drop len blank) len (l .kept .0 ∙ f) in
     let g = relent-length len blank (l .last .0) (l .kept .0 ∙ f) in (
-      (omega (arith, g), rw g (z .pre .0 .3)),
+      (omega (arith, g), rw g (z .pre .0 .3), z .pre .0 .4),
       (rw g (z .pre .1 .2), subst (Below (a .m)) (sym e) (l .ensures .1)),
     )
 

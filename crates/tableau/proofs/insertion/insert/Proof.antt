@@ -10,11 +10,11 @@ use Rattle.tableau.proofs.insertion.insert.Statement.{statement}
 use Rattle.tableau.proofs.insertion.insert.Tie as tie
 
 abbrev Inv-loop : tie.InvT-loop
-Inv-loop basis₀ line₀ m w len at₀ j₀ basis line at j =
+Inv-loop basis₀ line₀ m inverse w len at₀ j₀ basis line at j =
     (len ≡ length line₀) × Walked m w (length line₀) basis₀ line₀ basis line at j (w - j) (length line₀ - j)
 
 abbrev μ-loop : tie.MeasureT-loop
-μ-loop basis₀ line₀ m w len at₀ j₀ basis line at j = w - j
+μ-loop basis₀ line₀ m inverse w len at₀ j₀ basis line at j = w - j
 
 loop-holds : tie.Need-loop-holds Inv-loop μ-loop
 loop-holds c =
@@ -61,10 +61,12 @@ part-insert-at-end-2 c = search needs
 
 insert-at-requires : tie.Need-insert-at-requires Inv-loop μ-loop
 insert-at-requires c κs =
-    let a = c .before .before .before .before .before .before .args in
+    let z = c .before .before .before .before .before .before in
+    let a = z .args in
     let l = c .before .before .before .loop in
-    walked-asks (a .m) (a .w) (length (a .line .now)) (a .basis .now) (a .line .now) (l .basis) (l .line) (l .at) (l .j)
-    (l .at + (length (a .line .now) - l .j)) (l .inv .1) (omega arith) refl
+    let w = walked-asks (a .m) (a .w) (length (a .line .now)) (a .basis .now) (a .line .now) (l .basis) (l .line) (l .at) (l .j)
+    (l .at + (length (a .line .now) - l .j)) (l .inv .1) (omega arith) refl in
+    (w .0, w .1, w .2, w .3, z .pre .0 .2)
 
 same-length : tie.Need-same-length Inv-loop μ-loop
 same-length c = search needs
@@ -79,7 +81,7 @@ returns c =
     let o = c .before .before .before .before .before .insert-at in
     walked-stop (a .m) (a .w) (length (a .line .now)) (a .basis .now) (a .line .now) (l .basis) (l .line) (l .at) (l .j)
     (l .at + (length (a .line .now) - l .j)) (l .inv .1) (omega arith) refl
-    (o .last .0) (o .last .1 .0) (o .kept .0) (o .kept .1 .0) (o .ensures .0) (o .ensures .1 (c .if1 .taken))
+    (o .last .0) (o .kept .0) (o .ensures .1 (c .if1 .taken))
 
 add-j : tie.Need-add-j Inv-loop μ-loop
 add-j c = search needs
@@ -95,7 +97,7 @@ loop-again c =
       refl,
       walked-next (a .m) (a .w) (length (a .line .now)) (a .basis .now) (a .line .now) (l .basis) (l .line) (l .at) (l .j)
           (l .at + (length (a .line .now) - l .j)) (l .inv .1) (omega arith) refl
-          (o .last .0) (o .last .1 .0) (o .kept .0) (o .kept .1 .0) (o .ensures .0),
+          (o .last .0) (o .last .1 .0) (o .kept .0) (o .kept .1 .0) (o .ensures .0 (c .if1 .left)),
     )
 
 same-length-3 : tie.Need-same-length-3 Inv-loop μ-loop

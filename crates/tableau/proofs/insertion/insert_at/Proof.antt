@@ -1,5 +1,5 @@
 -- `insertion::insert_at` meets its contract: a row that holds nothing yet by the callee, and a law of proofs/Column.antt for each other way out.
-use mathlib.Core.Path.{_≡_, sym, ap, _∙_, subst}
+use mathlib.Core.Path.{_≡_, refl, sym, ap, _∙_, subst}
 use Prim.Native.Nat.{ℕ, _-_, _/_, _%_}
 use native.Mathlib.Omega.{arith}
 use lib.ListN.{getD}
@@ -10,7 +10,7 @@ use Rattle.residue.specs.Negative.{negative}
 use Rattle.equations.specs.Vectors.{combine, Below}
 use Rattle.equations.proofs.Vectors.{below-at, below-drop}
 use Rattle.slices.proofs.Parts.{lent, lent-is, lent-length}
-use Rattle.tableau.proofs.Column.{row-head, divisor-positive, reduction, column-zero, column-divided, column-reduced, not-used-up}
+use Rattle.tableau.proofs.Column.{row-head, divisor-positive, reduction, column-zero, column-divided, column-reduced, not-both}
 use Rattle.tableau.proofs.insertion.insert_at.Statement.{statement}
 use Rattle.tableau.proofs.insertion.insert_at.Tie as tie
 
@@ -59,6 +59,7 @@ reduce-requires c κs =
       omega (arith, below-at (z .args .m) 0 W (z .pre .3) (omega arith), div-le-self (getD W 0 0) (getD R 0 0)),
       lent-length 1 R ∙ ap (λ (n : ℕ). n - 1) (z .pre .1) ∙ sym (lent-length 1 W),
       subst (Below (z .args .m)) (sym (lent-is 1 W)) (below-drop (z .args .m) 1 W (z .pre .3)),
+      z .pre .4,
     )
 
 cofactors-requires : tie.Need-cofactors-requires
@@ -113,6 +114,7 @@ combine-both-requires c κs =
       ),
       omega arith,
       lent-length 1 R ∙ ap (λ (n : ℕ). n - 1) (z .pre .1) ∙ sym (lent-length 1 W),
+      z .pre .4,
     )
 
 slice-write-row : tie.Need-slice-write-row
@@ -141,11 +143,11 @@ returns-2 c =
     let W = a .line .now in
     let none : getD W 0 0 % getD R 0 0 ≡ 0 =
     eqb-true _ _ (sym (c .before .before .before .before .before .before .before .before .divides .ensures) ∙ c .before .before .before .before .before .before .before .if3 .taken) in (
-      column-divided (a .m) R W (c .before .before .reduce .last .1 .0)
+      λ _. column-divided (a .m) R W (c .before .before .reduce .last .1 .0)
           (z .pre .0) (z .pre .1) (z .pre .2) (z .pre .3) (omega arith) none
           (c .before .before .reduce .ensures
           ∙ ap (λ (p : ℕ). combine (a .m) p (negative (a .m) 1 % a .m) (lent 1 R) (lent 1 W)) (c .before .before .before .quotient .ensures)),
-      not-used-up,
+      λ e. not-both e refl,
     )
 
 same-length-5 : tie.Need-same-length-5
@@ -161,7 +163,7 @@ returns-3 c =
     let f = c .before .before .before .before .before .before .before .before .cofactors in
     let k = c .before .before .before .before .combine-both in
     let n = c .before .before .before .before .before .negate in (
-      column-reduced (a .m) (f .result .divisor) (f .result .s) (f .result .t) (getD (a .line .now) 0 0 / f .result .divisor)
+      λ _. column-reduced (a .m) (f .result .divisor) (f .result .s) (f .result .t) (getD (a .line .now) 0 0 / f .result .divisor)
           (n .result)
           (a .row .now) (a .line .now) (k .last .0) (k .last .1 .0)
           (z .pre .0) (z .pre .1) (z .pre .2) (z .pre .3) (omega (arith, c .before .before .before .before .before .before .before .before .before .before .before .before .if1 .taken))
@@ -169,14 +171,14 @@ returns-3 c =
           (reduction (a .m) (getD (a .row .now) 0 0) (getD (a .line .now) 0 0) (f .result) (n .result) (f .ensures .0)
           (n .ensures .0))
           (k .ensures .0) (k .ensures .1),
-      not-used-up,
+      λ e. not-both e refl,
     )
 
 returns-4 : tie.Need-returns-4
 returns-4 c =
     let z = c .before .before .before .before .before in (
-      column-zero (z .args .m) (z .args .row .now) (z .args .line .now) (z .pre .0) (z .pre .1) (z .pre .2) (z .pre .3) (omega arith),
-      not-used-up,
+      λ _. column-zero (z .args .m) (z .args .row .now) (z .args .line .now) (z .pre .0) (z .pre .1) (z .pre .2) (z .pre .3) (omega arith),
+      λ e. not-both e refl,
     )
 
 pub insert-at-spec : {M : Type 1} → statement M

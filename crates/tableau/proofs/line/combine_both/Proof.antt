@@ -9,11 +9,11 @@ use Rattle.tableau.proofs.line.combine_both.Statement.{statement}
 use Rattle.tableau.proofs.line.combine_both.Tie as tie
 
 abbrev Inv-loop : tie.InvT-loop
-Inv-loop row₀ line₀ m s t p n s-reciprocal t-reciprocal p-reciprocal n-reciprocal i₀ row line i =
+Inv-loop row₀ line₀ m inverse s t p n s-reciprocal t-reciprocal p-reciprocal n-reciprocal i₀ row line i =
     Both m s t p n row₀ line₀ i row line
 
 abbrev μ-loop : tie.MeasureT-loop
-μ-loop row₀ line₀ m s t p n s-reciprocal t-reciprocal p-reciprocal n-reciprocal i₀ row line i = length row₀ - i
+μ-loop row₀ line₀ m inverse s t p n s-reciprocal t-reciprocal p-reciprocal n-reciprocal i₀ row line i = length row₀ - i
 
 reciprocal-requires : tie.Need-reciprocal-requires Inv-loop μ-loop
 reciprocal-requires c κs = search needs

@@ -12,11 +12,11 @@ use Rattle.tableau.proofs.line.reduce.Statement.{statement}
 use Rattle.tableau.proofs.line.reduce.Tie as tie
 
 abbrev Inv-loop : tie.InvT-loop
-Inv-loop row line₀ m p u i₀ line i =
+Inv-loop row line₀ m inverse p u i₀ line i =
     (i ≤ length line₀) × (length line ≡ length line₀) × Combined m p (negative m 1 % m) row line₀ line₀ i line
 
 abbrev μ-loop : tie.MeasureT-loop
-μ-loop row line₀ m p u i₀ line i = length line₀ - i
+μ-loop row line₀ m inverse p u i₀ line i = length line₀ - i
 
 reciprocal-requires : tie.Need-reciprocal-requires Inv-loop μ-loop
 reciprocal-requires c κs = search needs

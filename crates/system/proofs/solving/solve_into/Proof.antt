@@ -1,0 +1,75 @@
+-- `solving::solve_into` meets its contract: either the vectors that were written are the block, or there are none and the
+-- multipliers are.
+use mathlib.Core.Path.{refl, ap, _∙_}
+use mathlib.Core.List.{List, _∷_}
+use Prim.Native.Nat.{ℕ, _+_, _*_, _≤_}
+use native.Mathlib.Nat.{mul-le-mul}
+use native.Mathlib.Omega.{arith}
+use Rattle.equations.specs.Lines.{equationsOf}
+use Rattle.system.proofs.Answer.{block-solved, block-refuted}
+use borrow.Author.Needs.{needs}
+use Rattle.system.proofs.solving.solve_into.Statement.{statement}
+use Rattle.system.proofs.solving.solve_into.Tie as tie
+
+numbers-fit : (n r : ℕ) → r ≤ n + 1 → r * n ≤ n + n * n
+numbers-fit n r h = omega (arith, mul-le-mul {n₁ = r} {m₁ = n} {n₂ = n + 1} {m₂ = n} h (omega arith))
+
+-- n is one of the sizes that are answered
+numbers-few : (n r : ℕ) → n ≤ 16 → r ≤ n + 1 → r * n ≤ 272
+numbers-few n r h g = mul-le-mul {n₁ = r} {m₁ = n} {n₂ = 17} {m₂ = 16} (omega arith) h
+
+solution-requires : tie.Need-solution-requires
+solution-requires c κs = search needs
+
+refutation-requires : tie.Need-refutation-requires
+refutation-requires c κs = search needs
+
+same-length : tie.Need-same-length
+same-length c = search needs
+
+returns : tie.Need-returns
+returns c =
+    let z = c .before .before .before .before .before .before .before .before .before .before .before in
+    let a = z .args in
+    let s = c .before .before .before .before .before .before .before .solution in
+    let es = equationsOf (a .n) (a .lines .now) in
+    let r = c .before .before .refutation in (
+      ap {B = List ℕ} (λ ks. 0 ∷ ks) (r .ensures .1)
+          ∙ block-refuted (a .m) (a .n) (s .result) es (s .last .1 .1 .1 .0) (s .ensures .1) (c .before .before .before .before .if1 .taken),
+      omega (arith, r .ensures .0, z .pre .2),
+    )
+
+cast-head : tie.Need-cast-head
+cast-head c = search needs
+
+mul-len : tie.Need-mul-len
+mul-len c =
+    let z = c .before .before .before .before .before .before .before in
+    let s = c .before .before .before .solution in
+    omega (arith, numbers-few (z .args .n) (s .result) (z .pre .0 .unknowns) (s .ensures .0))
+
+same-length-2 : tie.Need-same-length-2
+same-length-2 c = search needs
+
+returns-2 : tie.Need-returns-2
+returns-2 c =
+    let z = c .before .before .before .before .before .before .before in
+    let a = z .args in
+    let es = equationsOf (a .n) (a .lines .now) in
+    let s = c .before .before .before .solution in (
+      block-solved (a .m) (a .n) (s .result) es (s .last .1 .1 .1 .0) (s .ensures .1) (omega arith),
+      omega (arith, numbers-fit (a .n) (s .result) (s .ensures .0), z .pre .1),
+    )
+
+pub solve-into-spec : {M : Type 1} → statement M
+solve-into-spec =
+    tie.close
+    (tie.spec
+    solution-requires
+    refutation-requires
+    same-length
+    returns
+    cast-head
+    mul-len
+    same-length-2
+    returns-2)
