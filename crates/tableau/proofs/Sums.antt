@@ -1,7 +1,7 @@
 -- A sum of products whose low and high halves, of 32 bits each, are summed apart.
 --   Halves, halves-start, -next, -end   the two sums: of no product, of one more, of all
 --   high-fits                           the sum of the high halves fits 64 bits
---   join-is                             remainders of the two sums will do
+--   join-is                             the remainder of the high sum, with what the low one carries, will do
 --   dot-short                           entries past the end of the other list do not count
 use mathlib.Core.Path.{_≡_, refl, sym, ap, ap₂, _∙_}
 use mathlib.Core.List.{List, [], _∷_}
@@ -55,10 +55,14 @@ high-fits i n high x h g e f = sum (x / 4294967296) (high-half x f)
     sum : (y : ℕ) → y ≤ 4294967295 → high + y < 18446744073709551616
     sum y k = omega arith
 
-pub join-is : (m low high l h : ℕ) → l ≡ low % m → h ≡ high % m
-    → (l + h * 4294967296) % m ≡ (low + high * 4294967296) % m
-join-is m low high l h e f =
-    rw (e, f) (congruent-add (congruent-mod m low) (congruent-mul (congruent-mod m high) (congruent-refl {a = 4294967296})) .same)
+pub join-is : (m low high h : ℕ) → h ≡ (high + low / 4294967296) % m
+    → (h * 4294967296 + low % 4294967296) % m ≡ (low + high * 4294967296) % m
+join-is m low high h e =
+    rw e (congruent-add (congruent-mul (congruent-mod m (high + low / 4294967296)) (congruent-refl {a = 4294967296})) congruent-refl .same)
+    ∙ ap (λ (n : ℕ). n % m) (carried (low / 4294967296) (low % 4294967296) (div-add-mod' low 4294967296))
+  where
+    carried : (p q : ℕ) → p * 4294967296 + q ≡ low → (high + p) * 4294967296 + q ≡ low + high * 4294967296
+    carried p q f = omega (arith, f)
 
 pub dot-short : (p q : ℕ) (a v : List ℕ) → length v ≤ p → length v ≤ q → dot (take p a) v ≡ dot (take q a) v
 dot-short p q a [] h g = dot-nil (take p a) ∙ sym (dot-nil (take q a))

@@ -24,14 +24,16 @@ pub fn sum(a: &[u32], b: &[u32], m: u32) -> u32
     join(low, high, m)
 }
 
-// Small moduli leave no high half, and then one division is enough.
+// Small moduli leave no high half, and then one division is enough. Else what the low halves carry goes to the high ones, so that
+// two will do.
 fn join(low: u64, high: u64, m: u32) -> u32
-    requires { ⌜ 0 < m ⌝ }
+    requires { ⌜ (0 < m) × (high ≤ 281474976710656) ⌝ }
     ensures { λ r. ⌜ r ≡ (low + high * 4294967296) % m ⌝ }
 {
     if high == 0 {
         reduce(low, m)
     } else {
-        reduce(wide(reduce(low, m)) + wide(reduce(high, m)) * 4294967296, m)
+        let rest = reduce(high + low / 4294967296, m);
+        reduce(wide(rest) * 4294967296 + low % 4294967296, m)
     }
 }

@@ -1,4 +1,4 @@
--- `products::join` meets its contract: the remainders of the two sums stand for the sums.
+-- `products::join` meets its contract: the remainder of the high sum, with what the low one carries, stands for both.
 use mathlib.Core.Path.{_≡_, _∙_}
 use Prim.Native.Nat.{_+_, _*_}
 use native.Mathlib.Omega.{arith}
@@ -10,26 +10,23 @@ use Rattle.tableau.proofs.products.join.Tie as tie
 reduce-requires : tie.Need-reduce-requires
 reduce-requires c κs = search needs
 
+add-reduce : tie.Need-add-reduce
+add-reduce c = search needs
+
 reduce-requires-2 : tie.Need-reduce-requires-2
 reduce-requires-2 c κs = search needs
 
 wide-requires : tie.Need-wide-requires
 wide-requires c κs = search needs
 
-reduce-requires-3 : tie.Need-reduce-requires-3
-reduce-requires-3 c κs = search needs
-
-wide-requires-2 : tie.Need-wide-requires-2
-wide-requires-2 c κs = search needs
-
 mul-reduce : tie.Need-mul-reduce
 mul-reduce c = search needs
 
-add-reduce : tie.Need-add-reduce
-add-reduce c = search needs
+add-reduce-2 : tie.Need-add-reduce-2
+add-reduce-2 c = search needs
 
-reduce-requires-4 : tie.Need-reduce-requires-4
-reduce-requires-4 c κs = search needs
+reduce-requires-3 : tie.Need-reduce-requires-3
+reduce-requires-3 c κs = search needs
 
 returns : tie.Need-returns
 returns c =
@@ -39,23 +36,21 @@ returns c =
 
 returns-2 : tie.Need-returns-2
 returns-2 c =
-    let a = c .before .before .before .before .before .before .args in
-    c .reduce4 .ensures .0
-    ∙ join-is (a .m) (a .low) (a .high) (c .before .before .before .wide .result) (c .before .wide2 .result)
-    (c .before .before .before .wide .ensures ∙ c .before .before .before .before .reduce2 .ensures .0)
-    (c .before .wide2 .ensures ∙ c .before .before .reduce3 .ensures .0)
+    let a = c .before .before .before .before .args in
+    c .reduce3 .ensures .0
+    ∙ join-is (a .m) (a .low) (a .high) (c .before .wide .result)
+    (c .before .wide .ensures ∙ c .before .before .reduce2 .ensures .0)
 
 pub join-spec : {M : Type 1} → statement M
 join-spec =
     tie.close
     (tie.spec
     reduce-requires
+    add-reduce
     reduce-requires-2
     wide-requires
-    reduce-requires-3
-    wide-requires-2
     mul-reduce
-    add-reduce
-    reduce-requires-4
+    add-reduce-2
+    reduce-requires-3
     returns
     returns-2)
