@@ -15,7 +15,7 @@ use lib.ListN.{length, take, drop, replicate}
 use lib.Seq.{take-at, length-take-le}
 use Rattle.slices.proofs.Parts.{joined-fit, relent-length}
 use Rattle.tableau.specs.Packed.{rows, triangle}
-use Rattle.system.proofs.Rows.{triangle-mono}
+use Rattle.tableau.proofs.Packed.{triangle-mono}
 
 -- enough for 17 columns
 abbrev pub cleared : List ℕ

@@ -1,7 +1,6 @@
 -- Where the rows of a packed basis lie.
 --   triangle-closed   i rows, the first of l numbers, as a product
 --   triangle-within   the next row begins in the list
---   triangle-mono     fewer and shorter rows are fewer numbers
 --   pivot-rows        and its first number is its pivot
 --   pivot-kept        which is not 0
 --   carried-rows      the last row but for its pivot stands at the end of the list
@@ -37,11 +36,6 @@ triangle-within zero i l h g = absurd (omega arith)
 triangle-within (suc w) i zero h g = absurd (omega arith)
 triangle-within (suc w) zero (suc l) h g = omega arith
 triangle-within (suc w) (suc i) (suc l) h g = omega (arith, triangle-within w i l (omega arith) (omega arith))
-
-pub triangle-mono : (w l a b : ℕ) → w ≤ a → l ≤ b → triangle w l ≤ triangle a b
-triangle-mono zero l a b h g = omega arith
-triangle-mono (suc w) l zero b h g = absurd (omega arith)
-triangle-mono (suc w) l (suc a) b h g = omega (arith, triangle-mono w (pred l) a (pred b) (omega arith) (omega arith))
 
 first-number : (l : ℕ) (s : List ℕ) (B : List (List ℕ)) → 0 < l → pivot 0 (take l s ∷ B) ≡ getD s 0 0
 first-number zero s B h = absurd (omega arith)

@@ -35,7 +35,8 @@ fn vector_into(basis: &[u32], out: &mut [u32], m: u32, n: usize, i: usize, e: u3
     let mut x = [0u32; 17];
     x[i] = e;
     let used = i + 1;
-    extend(basis, &mut x[..used], m, i, n - i);
+    let size = packed_size(i, n + 1);
+    extend(basis, &mut x[..used], m, i, n - i, size);
     let w = n + 1;
     turn(&x[..w], out);
 }

@@ -1,148 +1,176 @@
--- Back substitution by one column: the rows b behind the first one are lent with the entries X behind the first one, which come
--- back as U; then the first entry is computed and stored.
---   back-fits       the first row lies in b
---   back-pivot      its first number is a pivot
---   back-requires   the substitution over the rest may be called
---   back-sum, back-room   the sum over the row and U may be called
---   back-same       the entry v with U behind it is the substitution
---   back-below      and has residues only
---   back-none, back-none-below   no column at all
-use mathlib.Core.Path.{_≡_, refl, sym, ap, ap₂, _∙_, subst, subst₂}
-use mathlib.Core.List.{List, [], _∷_}
-use Prim.Native.Nat.{ℕ, zero, suc, _+_, _-_, _/_, _%_, _≤_, _<_}
-use native.Mathlib.Nat.{mod-mod, mod-lt, div-le-self, le-refl}
+-- Back substitution, a column in each turn: before a turn the entries from i on are known, and the row of column i - 1 is the next.
+--   Extended                        what holds before a turn
+--   extended-start, -next, -end     before the first turn, one turn, after the last one
+--   extended-begins, -ends, -asks   the next row lies in the list, has a pivot, and is as long as is wanted
+use mathlib.Core.Path.{_≡_, refl, sym, ap, ap₂, _∙_, subst}
+use mathlib.Core.List.{List, _∷_}
+use Prim.Native.Nat.{ℕ, zero, suc, _+_, _-_, _≤_, _<_}
+use native.Mathlib.Nat.{le-refl}
+use native.Mathlib.Numerals.{add-one}
 use native.Mathlib.Omega.{arith}
-use lib.ListN.{length, take, drop, getD, set, length-drop}
-use lib.Seq.{length-take-le, getD-take, drop-drop}
-use Rattle.residue.specs.Negative.{negative}
-use Rattle.equations.specs.Equation.{dot}
+use lib.ListN.{length, take, drop, getD, set, length-drop, length-set}
+use lib.Seq.{length-take-le, getD-take, set-split, drop-at}
 use Rattle.equations.specs.Vectors.{Below}
-use Rattle.elimination.specs.Substitution.{place, fit, extend}
+use Rattle.elimination.specs.Substitution.{fit, extend}
 use Rattle.tableau.specs.Packed.{rows, triangle, Kept}
-use Rattle.slices.proofs.Parts.{lent, putBack, lent-is, lent-length, put-back-is}
-use Rattle.tableau.proofs.Packed.{rows-split, triangle-front, triangle-behind}
+use Rattle.slices.proofs.Parts.{lent, lent-is, lent-length}
+use Rattle.tableau.proofs.Packed.{rows-split, triangle-last, triangle-mono, drop-row}
 use Rattle.tableau.proofs.Column.{row-head}
-use Rattle.tableau.proofs.Walk.{kept-front, kept-behind}
-use Rattle.tableau.proofs.Sums.{dot-short}
+use Rattle.tableau.proofs.Walk.{kept-front, kept-from}
+use Rattle.tableau.proofs.Entry.{fit-short, extend-split}
 
-extend-split : (m j : ℕ) (r : List ℕ) (B : List (List ℕ)) (T : List ℕ) → 0 < j
-    → extend m j (r ∷ B) T ≡ fit m r (extend m (j - 1) B T) ∷ extend m (j - 1) B T
-extend-split m zero r B T h = absurd (omega arith)
-extend-split m (suc j) r B T h = let e : suc j - 1 ≡ j = omega arith in rw e
+-- X are the entries before the first turn, x those before this one; the j rows in b begin with one of l numbers
+pub record Extended (m j l : ℕ) (b X x : List ℕ) (at i : ℕ) : Type 0 where
+  pub passed : i ≤ j
+  pub place-is : at ≡ triangle i l
+  pub size : length x ≡ length X
+  pub same : drop i x ≡ extend m (j - i) (rows (j - i) (l - i) (drop at b)) (drop j X)
+  pub below : Below m (drop i x)
 
--- the first row of b at the entries Y
-fit-is : (m l : ℕ) (b Y : List ℕ) → 0 < l → 0 < length b → length Y ≤ l - 1
-    → fit m (take l b) Y ≡ place m (getD b 0 0) (dot (take (length Y) (drop 1 b)) Y)
-fit-is m zero b Y h g e = absurd (omega arith)
-fit-is m (suc l) [] Y h g e = absurd (omega arith)
-fit-is m (suc l) (d ∷ b) Y h g e = ap (place m d) (dot-short l (length Y) b Y (omega arith) (le-refl _))
+pub extended-start : (m j l at : ℕ) (b X : List ℕ) → at ≡ triangle j l → Below m (drop j X) → Extended m j l b X X at j
+extended-start m j l at b X e h =
+    let z : j - j ≡ 0 = omega arith in
+    record { passed = le-refl j; place-is = e; size = refl; same = rw z; below = h }
 
-place-is : (m d r q : ℕ) → r ≡ q % m → negative m r % m / d ≡ place m d q
-unfolding place negative
-place-is m d r q h = rw (h, mod-mod q m)
+pub extended-end : (m j l : ℕ) (b X x : List ℕ) (at i : ℕ) → i ≡ 0 → Extended m j l b X x at i
+    → (x ≡ extend m j (rows j l b) (drop j X)) × Below m x
+extended-end m j l b X x at zero h E =
+    let e : j - 0 ≡ j = omega arith in
+    let f : l - 0 ≡ l = omega arith in
+    (rw (e, f, E .place-is) at (E .same), E .below)
+extended-end m j l b X x at (suc i) h E = absurd (omega arith)
 
-module _ (m j k : ℕ) (b X : List ℕ) (some : 0 < j) (inside : j ≤ length X) (room : triangle j (length X + k) ≤ length b) where
-  pub back-fits : length X + k ≤ length b
-  back-fits = omega (arith, triangle-front j (length X + k) some)
+drop-stored : (p v : ℕ) (x : List ℕ) → p < length x → drop p (set x p v) ≡ v ∷ drop (suc p) x
+drop-stored p v x h =
+    ap (drop p) (set-split x p v h) ∙ drop-at (take p x) (v ∷ drop (suc p) x) p (length-take-le p x (omega arith))
 
-  pub back-pivot : Kept m (rows j (length X + k) b) → (0 < getD b 0 0) × (getD b 0 0 ≤ m)
-  back-pivot kept =
-      let n = length-take-le (length X + k) b back-fits in
-      subst (λ (d : ℕ). (0 < d) × (d ≤ m)) (getD-take (length X + k) b 0 0 (omega arith))
-      (row-head m (take (length X + k) b) (omega (arith, n)) (kept-front m j (length X + k) b some kept))
+less-one : (n p : ℕ) → n - p - 1 ≡ n - suc p
+less-one n p = omega arith
 
-  -- the part of the first row that meets the entries behind the first one
-  row-length : length (take (length X - 1) (drop 1 b)) ≡ length X - 1
-  row-length = length-take-le (length X - 1) (drop 1 b) (omega (arith, length-drop 1 b, back-fits))
+-- ---- one turn: the row of column p begins at o
 
-  pub back-room : length X ≤ 65536 → length (take (length X - 1) (drop 1 b)) ≤ 65536
-  back-room h = omega (arith, row-length)
+module _ (m j l : ℕ) (b X x : List ℕ) (at p o : ℕ) (E : Extended m j l b X x at (suc p)) (inside : j ≤ length X)
+    (wide : length X ≤ l) (room : triangle j l ≤ length b) (begins : o ≡ at - (l - p)) where
+  begins-at : o ≡ triangle p l
+  begins-at = omega (arith, begins, E .place-is, triangle-last p l)
 
-  rest-length : length (lent 1 X) + k ≡ length X + k - 1
-  rest-length = omega (arith, lent-length 1 X)
+  fits : o + (l - p) ≤ length b
+  fits = omega (arith, begins-at, triangle-last p l, triangle-mono (suc p) l j l (E .passed) (le-refl l), room)
 
-  rest-drop : drop (j - 1) (lent 1 X) ≡ drop j X
-  rest-drop =
-      let e : 1 + (j - 1) ≡ j = omega arith in
-      ap (drop (j - 1)) (lent-is 1 X) ∙ drop-drop (j - 1) 1 X ∙ ap (λ (n : ℕ). drop n X) e
+  behind-fits : l - p ≤ length (drop o b)
+  behind-fits = omega (arith, length-drop o b, fits)
 
-  pub back-requires : (t : ℕ) → j ≡ t → length X ≤ 65536 → Kept m (rows j (length X + k) b) → Below m (drop j X)
-      → (j - 1 < t)
-      × (((j - 1 ≤ length (lent 1 X)) × (length (lent 1 X) ≤ 65536)
-      × (triangle (j - 1) (length (lent 1 X) + k) ≤ length (lent (length X + k) b)))
-      × (Kept m (rows (j - 1) (length (lent 1 X) + k) (lent (length X + k) b)) × Below m (drop (j - 1) (lent 1 X))))
-  back-requires t e s kept below = (
-    omega arith,
-    (
-      (
-        omega (arith, lent-length 1 X),
-        omega (arith, lent-length 1 X),
-        rw rest-length (omega (arith, lent-length (length X + k) b, triangle-behind j (length X + k) some)),
-      ),
-      (
-        subst₂ (λ (n : ℕ) (s : List ℕ). Kept m (rows (j - 1) n s)) (sym rest-length) (sym (lent-is (length X + k) b))
-            (kept-behind m j (length X + k) b some kept),
-        subst (Below m) (sym rest-drop) below,
-      ),
-    ),
-  )
+  columns : 0 < l - p
+  columns = omega (arith, E .passed)
 
-  module _ (U : List ℕ) (U-length : length U ≡ length (lent 1 X)) where
-    -- what is lent for the sum is U
-    sum-lent : (X : List ℕ) → 0 < length X → lent 1 (putBack 1 X U) ≡ U
-    sum-lent [] h = absurd (omega arith)
-    sum-lent (x ∷ X) h = lent-is 1 (putBack 1 (x ∷ X) U) ∙ ap (drop 1) (put-back-is 1 (x ∷ X) U)
+  left : 0 < j - p
+  left = omega (arith, E .passed)
 
-    pub back-sum : length (take (length X - 1) (drop 1 b)) ≡ length (lent 1 (putBack 1 X U))
-    back-sum =
-        row-length
-        ∙ sym (ap length (sum-lent X (omega arith)) ∙ U-length ∙ lent-length 1 X)
+  pivot-kept : Kept m (rows j l b) → (0 < getD (drop o b) 0 0) × (getD (drop o b) 0 0 ≤ m)
+  pivot-kept kept =
+      let n = length-take-le (l - p) (drop o b) behind-fits in
+      let k = kept-from m p j l b (omega (arith, E .passed)) kept in
+      subst (λ (d : ℕ). (0 < d) × (d ≤ m)) (getD-take (l - p) (drop o b) 0 0 columns)
+      (row-head m (take (l - p) (drop o b)) (omega (arith, n, columns))
+      (kept-front m (j - p) (l - p) (drop o b) left
+      (subst (λ (n : ℕ). Kept m (rows (j - p) (l - p) (drop n b))) (sym begins-at) k)))
 
-    stored : (X : List ℕ) (v : ℕ) → 0 < length X → set (putBack 1 X U) 0 v ≡ v ∷ U
-    stored [] v h = absurd (omega arith)
-    stored (x ∷ X) v h = ap (λ (s : List ℕ). set s 0 v) (put-back-is 1 (x ∷ X) U)
+  rest-is : drop (l - p) (drop o b) ≡ drop at b
+  rest-is =
+      ap (λ (n : ℕ). drop (l - p) (drop n b)) begins-at ∙ drop-row p l b ∙ ap (λ (n : ℕ). drop n b) (sym (E .place-is))
 
-    pub back-same : (r v : ℕ)
-        → U ≡ extend m (j - 1) (rows (j - 1) (length (lent 1 X) + k) (lent (length X + k) b)) (drop (j - 1) (lent 1 X))
-        → r ≡ dot (take (length X - 1) (drop 1 b)) (lent 1 (putBack 1 X U)) % m → v ≡ negative m r % m / getD b 0 0
-        → set (putBack 1 X U) 0 v ≡ extend m j (rows j (length X + k) b) (drop j X)
-    back-same r v e f g =
-        stored X v (omega arith)
-        ∙ ap₂ {C = List ℕ} (λ x s. x ∷ s) entry behind
-        ∙ sym (ap (λ (B : List (List ℕ)). extend m j B (drop j X)) (rows-split j (length X + k) b some)
-        ∙ extend-split m j (take (length X + k) b) (rows (j - 1) (length X + k - 1) (drop (length X + k) b)) (drop j X) some)
-      where
-        Y : List ℕ
-        Y = extend m (j - 1) (rows (j - 1) (length X + k - 1) (drop (length X + k) b)) (drop j X)
+  short : p < length x
+  short = omega (arith, E .passed, E .size)
 
-        behind : U ≡ Y
-        behind =
-            e
-            ∙ ap₂ (λ (n : ℕ) (s : List ℕ). extend m (j - 1) (rows (j - 1) n s) (drop (j - 1) (lent 1 X))) rest-length
-            (lent-is (length X + k) b)
-            ∙ ap (extend m (j - 1) (rows (j - 1) (length X + k - 1) (drop (length X + k) b))) rest-drop
+  next : (v : ℕ) → v ≡ fit m (take (length X - p) (drop o b)) (drop (suc p) x) → v < m
+      → Extended m j l b X (set x p v) o p
+  next v is small = record {
+    passed = omega (arith, E .passed);
+    place-is = begins-at;
+    size = length-set x p v ∙ E .size;
+    same = drop-stored p v x short ∙ ap₂ {C = List ℕ} (λ y s. y ∷ s) entry (E .same) ∙ sym split;
+    below = subst (Below m) (sym (drop-stored p v x short)) (small, E .below);
+  }
+    where
+      Y : List ℕ
+      Y = extend m (j - suc p) (rows (j - suc p) (l - suc p) (drop at b)) (drop j X)
 
-        U-is : length U ≡ length X - 1
-        U-is = U-length ∙ lent-length 1 X
+      entry : v ≡ fit m (take (l - p) (drop o b)) Y
+      entry =
+          is
+          ∙ fit-short m (l - p) (length X - p) (drop o b) (drop (suc p) x)
+          (omega (arith, length-drop (suc p) x, E .size, short))
+          (omega (arith, wide))
+          ∙ ap (fit m (take (l - p) (drop o b))) (E .same)
 
-        product : r ≡ dot (take (length U) (drop 1 b)) U % m
-        product = f ∙ ap₂ (λ (n : ℕ) (s : List ℕ). dot (take n (drop 1 b)) s % m) (sym U-is) (sum-lent X (omega arith))
+      split : extend m (j - p) (rows (j - p) (l - p) (drop o b)) (drop j X) ≡ fit m (take (l - p) (drop o b)) Y ∷ Y
+      split =
+          ap (λ (B : List (List ℕ)). extend m (j - p) B (drop j X)) (rows-split (j - p) (l - p) (drop o b) left)
+          ∙ extend-split m (j - p) (take (l - p) (drop o b)) (rows (j - p - 1) (l - p - 1) (drop (l - p) (drop o b))) (drop j X)
+          left
+          ∙ rw (less-one j p, less-one l p, rest-is)
 
-        entry : v ≡ fit m (take (length X + k) b) Y
-        entry =
-            g ∙ place-is m (getD b 0 0) r (dot (take (length U) (drop 1 b)) U) product
-            ∙ sym (fit-is m (length X + k) b U (omega arith) (omega (arith, back-fits)) (omega (arith, U-is)))
-            ∙ ap (fit m (take (length X + k) b)) behind
+-- ---- as the code has it: the row of column i - 1, of which as much is lent as there are entries
 
-    pub back-below : (r v : ℕ) → 0 < m → Below m U → v ≡ negative m r % m / getD b 0 0 → Below m (set (putBack 1 X U) 0 v)
-    back-below r v pos below g =
-        subst (Below m) (sym (stored X v (omega arith)))
-        (omega (arith, g, div-le-self (negative m r % m) (getD b 0 0), mod-lt (negative m r) pos), below)
+module _ (m j k : ℕ) (b X x : List ℕ) (at i : ℕ) (E : Extended m j (length X + k) b X x at i) (some : 0 < i)
+    (inside : j ≤ length X) (room : triangle j (length X + k) ≤ length b) where
+  abbrev p : ℕ
+  p = i - 1
 
-pub back-none : (m j l : ℕ) (b X : List ℕ) → j ≡ 0 → X ≡ extend m j (rows j l b) (drop j X)
-back-none m zero l b X h = refl
-back-none m (suc j) l b X h = absurd (omega arith)
+  abbrev l : ℕ
+  l = length X + k
 
-pub back-none-below : (m j : ℕ) (X : List ℕ) → j ≡ 0 → Below m (drop j X) → Below m X
-back-none-below m zero X h b = b
-back-none-below m (suc j) X h b = absurd (omega arith)
+  abbrev o : ℕ
+  o = at - (l - p)
+
+  abbrev end : ℕ
+  end = o + (length X - p)
+
+  before : Extended m j l b X x at (suc p)
+  before = let e : i ≡ suc (i - 1) = omega arith in subst (Extended m j l b X x at) e E
+
+  wide : length X ≤ l
+  wide = omega arith
+
+  whole : o + (l - p) ≤ length b
+  whole = fits m j l b X x at p o before inside wide room refl
+
+  pub extended-begins : l - p ≤ at
+  extended-begins = omega (arith, before .place-is, triangle-last p l)
+
+  pub extended-ends : end ≤ length b
+  extended-ends = omega (arith, whole)
+
+  size-is : end - o ≡ length X - p
+  size-is = omega arith
+
+  met : p < length X
+  met = omega (arith, before .passed, inside)
+
+  row-length : length (take (end - o) (drop o b)) ≡ length X - p
+  row-length =
+      ap (λ (n : ℕ). length (take n (drop o b))) size-is
+      ∙ length-take-le (length X - p) (drop o b) (omega (arith, length-drop o b, whole))
+
+  rest-length : length (lent (p + 1) x) ≡ length X - suc p
+  rest-length = lent-length (p + 1) x ∙ ap₂ (λ (n q : ℕ). n - q) (before .size) (add-one p)
+
+  pub extended-asks : length X ≤ 65536 → Kept m (rows j l b)
+      → (0 < m) × (length (take (end - o) (drop o b)) ≡ length (lent (p + 1) x) + 1) × (length (lent (p + 1) x) ≤ 65536)
+      × (0 < getD (take (end - o) (drop o b)) 0 0)
+  extended-asks few kept =
+      let d = pivot-kept m j l b X x at p o before inside wide room refl kept in (
+        omega (arith, d .0, d .1),
+        omega (arith, row-length, rest-length, met),
+        omega (arith, rest-length),
+        subst (λ (d : ℕ). 0 < d) (sym (getD-take (end - o) (drop o b) 0 0 (omega (arith, size-is, met)))) (d .0),
+      )
+
+  pub extended-next : (v : ℕ) → v ≡ fit m (take (end - o) (drop o b)) (lent (p + 1) x) → v < m
+      → Extended m j l b X (set x p v) o p
+  extended-next v is small =
+      next m j l b X x at p o before inside wide room refl v
+      (is
+      ∙ ap₂ (λ (n : ℕ) (y : List ℕ). fit m (take n (drop o b)) y) size-is
+      (lent-is (p + 1) x ∙ ap (λ (n : ℕ). drop n x) (add-one p)))
+      small

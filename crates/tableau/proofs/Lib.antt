@@ -8,6 +8,7 @@ pub mod Column
 pub mod Walk
 pub mod Walked
 pub mod Sums
+pub mod Entry
 pub mod Extension
 pub mod Lines
 pub mod Built

@@ -3,13 +3,16 @@
 --   rows-behind      a row in front of packed rows
 --   triangle-front   the first row lies in the list
 --   triangle-behind  and this is what lies behind it
+--   triangle-last    one row more at the end
+--   triangle-mono    fewer and shorter rows are fewer numbers
+--   drop-row         what lies behind i rows, without the next one
 --   clear-next       a blank row in front of a cleared basis
-use mathlib.Core.Path.{_≡_, refl, ap, ap₂, _∙_}
+use mathlib.Core.Path.{_≡_, refl, sym, ap, ap₂, _∙_}
 use mathlib.Core.List.{List, _∷_, _++_}
 use Prim.Native.Nat.{ℕ, zero, suc, pred, _+_, _-_, _<_, _≤_}
 use native.Mathlib.Omega.{arith}
 use lib.ListN.{length, take, drop, replicate}
-use lib.Seq.{take-at, drop-at, length-take-le}
+use lib.Seq.{take-at, drop-at, drop-drop, length-take-le}
 use Rattle.elimination.specs.Basis.{empty}
 use Rattle.tableau.specs.Packed.{rows, triangle}
 
@@ -35,6 +38,18 @@ triangle-behind (suc w) l h =
     let e : suc w - 1 ≡ w = omega arith in
     let f : l - 1 ≡ pred l = omega arith in
     rw (e, f)
+
+pub triangle-last : (i l : ℕ) → triangle (suc i) l ≡ triangle i l + (l - i)
+triangle-last zero l = omega arith
+triangle-last (suc i) l = omega (arith, triangle-last i (pred l))
+
+pub triangle-mono : (w l a b : ℕ) → w ≤ a → l ≤ b → triangle w l ≤ triangle a b
+triangle-mono zero l a b h g = omega arith
+triangle-mono (suc w) l zero b h g = absurd (omega arith)
+triangle-mono (suc w) l (suc a) b h g = omega (arith, triangle-mono w (pred l) a (pred b) (omega arith) (omega arith))
+
+pub drop-row : (i l : ℕ) (b : List ℕ) → drop (l - i) (drop (triangle i l) b) ≡ drop (triangle (suc i) l) b
+drop-row i l b = drop-drop (l - i) (triangle i l) b ∙ ap (λ (n : ℕ). drop n b) (sym (triangle-last i l))
 
 pub rows-fit : (w l : ℕ) (b : List ℕ) → 0 < w → length b ≡ triangle w l → l ≤ length b
 rows-fit w l b h g = omega (arith, triangle-front w l h)

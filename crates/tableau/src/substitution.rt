@@ -1,10 +1,10 @@
 // Back substitution over packed rows.
 ghost use mathlib.Core.Path.{_≡_};
 ghost use Prim.Native.Nat.{_+_, _/_, _%_, _<_, _≤_};
-ghost use lib.ListN.{length, drop};
+ghost use lib.ListN.{length, drop, getD};
 ghost use Rattle.residue.specs.Negative.{negative};
 ghost use Rattle.equations.specs.Vectors.{Below};
-ghost use Rattle.elimination.specs.Substitution.{extend};
+ghost use Rattle.elimination.specs.Substitution.{extend, fit};
 ghost use Rattle.tableau.specs.Packed.{rows, triangle, Kept};
 use crate::products::sum;
 
@@ -20,20 +20,33 @@ fn least(rest: u32, m: u32, d: u32) -> u32
     }
 }
 
-// The first j entries of x, from those behind them. The rows have k columns more than x has entries; they are not looked at.
-pub fn extend(basis: &[u32], x: &mut [u32], m: u32, j: usize, k: usize)
-    requires { ⌜ (j ≤ length (now x)) × (length (now x) ≤ 65536) × (triangle j (length (now x) + k) ≤ length (now basis)) ⌝ }
+// The entry of a row's own column, from the entries y of the columns behind it.
+fn entry(row: &[u32], y: &[u32], m: u32) -> u32
+    requires { ⌜ (0 < m) × (length (now row) ≡ length (now y) + 1) × (length (now y) ≤ 65536) × (0 < getD (now row) 0 0) ⌝ }
+    ensures { λ r. ⌜ (r ≡ fit m (now (row .entry)) (now (y .entry))) × (r < m) ⌝ }
+{
+    let rest = sum(&row[1..], y, m);
+    least(rest, m, row[0])
+}
+
+// The first j entries of x, the last one first, from those behind them. The j rows are `size` numbers, so that the last row is found
+// without a walk. They have k columns more than x has entries; these are not looked at.
+pub fn extend(basis: &[u32], x: &mut [u32], m: u32, j: usize, k: usize, size: usize)
+    requires { ⌜ (j ≤ length (now x)) × (length (now x) ≤ 65536) × (triangle j (length (now x) + k) ≤ length (now basis))
+        × (size ≡ triangle j (length (now x) + k)) ⌝ }
     requires { ⌜ Kept m (rows j (length (now x) + k) (now basis)) × Below m (drop j (now x)) ⌝ }
     ensures { λ _. ⌜ now (x .exit)
         ≡ extend m j (rows j (length (now (x .entry)) + k) (now (basis .entry))) (drop j (now (x .entry))) ⌝ }
     ensures { λ _. ⌜ Below m (now (x .exit)) ⌝ }
 {
-    if j > 0 {
-        let len = x.len();
-        let l = len + k;
-        extend(&basis[l..], &mut x[1..], m, j - 1, k);
-        let rest = sum(&basis[1..len], &x[1..], m);
-        let d = basis[0];
-        x[0] = least(rest, m, d);
+    let len = x.len();
+    let mut at = size;
+    let mut i = j;
+    while i > 0 {
+        i -= 1;
+        at -= len + k - i;
+        let end = at + (len - i);
+        let v = entry(&basis[at..end], &x[i + 1..], m);
+        x[i] = v;
     }
 }

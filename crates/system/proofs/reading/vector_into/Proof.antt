@@ -1,5 +1,5 @@
 -- `reading::vector_into` meets its contract: back substitution from e in column i, zeros behind it, and the vector turned round.
-use mathlib.Core.Path.{_≡_, sym, ap, _∙_}
+use mathlib.Core.Path.{_≡_, refl, sym, ap, _∙_}
 use mathlib.Core.List.{List, [], _++_}
 use Prim.Native.Nat.{ℕ, _+_, _-_, _≤_}
 use native.Mathlib.Omega.{arith}
@@ -8,20 +8,21 @@ use lib.Seq.{length-take-le}
 use borrow.Author.Needs.{needs}
 use Rattle.elimination.specs.Tableau.{turned}
 use Rattle.tableau.specs.Packed.{rows, triangle, Kept}
+use Rattle.tableau.proofs.Packed.{triangle-mono}
 use Rattle.system.specs.Model.Reading.{Readable}
-use Rattle.system.proofs.Rows.{triangle-mono}
 use Rattle.system.proofs.Seed.{seed, length-seed, seed-front, seed-below, seed-vector, kept-front}
 use Rattle.system.proofs.reading.vector_into.Statement.{statement}
 use Rattle.system.proofs.reading.vector_into.Tie as tie
 
--- the rows that back substitution looks at, for k words in front of the zeros
+-- the rows that back substitution looks at, for k words in front of the zeros, and their size
 rows-lent : (m n i k : ℕ) (s : List ℕ) → Readable m n s → i ≤ n → k ≡ i + 1
-    → (triangle i (k + (n - i)) ≤ length s) × Kept m (rows i (k + (n - i)) s)
+    → (triangle i (k + (n - i)) ≤ length s) × Kept m (rows i (k + (n - i)) s) × (triangle i (n + 1) ≡ triangle i (k + (n - i)))
 rows-lent m n i k s r h e =
     let f : k + (n - i) ≡ n + 1 = omega arith in
     rw f (
       omega (arith, triangle-mono i (n + 1) (n + 1) (n + 1) (omega arith) (omega arith), r .size),
       kept-front m i (n + 1) (n + 1) s (omega arith) (r .kept),
+      refl,
     )
 
 -- what comes back is as long as what was lent, and so is the array
@@ -48,14 +49,22 @@ array-write-x c = search needs
 add-used : tie.Need-add-used
 add-used c = search needs
 
+add-packed-size : tie.Need-add-packed-size
+add-packed-size c = search needs
+
+packed-size-requires : tie.Need-packed-size-requires
+packed-size-requires c κs =
+    let z = c .before .before in
+    (omega (arith, z .pre .2), omega (arith, z .pre .0 .unknowns))
+
 array-borrow-prefix-x : tie.Need-array-borrow-prefix-x
 array-borrow-prefix-x c =
-    let z = c .before .before in
+    let z = c .before .before .before in
     omega (arith, length-seed (z .args .i) (z .args .e), z .pre .0 .unknowns)
 
 slice-aggregate-extend : tie.Need-slice-aggregate-extend
 slice-aggregate-extend c =
-    let z = c .before .before .before in
+    let z = c .before .before .before .before in
     sym (seed-front (z .args .i + 1) (z .args .i) (z .args .e) (omega (arith, z .pre .0 .unknowns)))
 
 sub-extend : tie.Need-sub-extend
@@ -63,13 +72,13 @@ sub-extend c = search needs
 
 extend-requires : tie.Need-extend-requires
 extend-requires c κs =
-    let z = c .before .before .before in
+    let z = c .before .before .before .before in
     let a = z .args in
     let x = take (a .i + 1) (seed (a .i) (a .e)) in
     let n = z .pre .0 .unknowns in
     let e = seed-front (a .i + 1) (a .i) (a .e) (omega arith) in
     let r = rows-lent (a .m) (a .n) (a .i) (length x) (a .basis .now) (z .pre .0) (z .pre .2) e in (
-      (omega (arith, e), omega (arith, e), r .0),
+      (omega (arith, e), omega (arith, e), r .0, c .before .packed-size .ensures ∙ r .2),
       (r .1, seed-below (a .m) (a .i) (a .e) (omega arith) (z .pre .3)),
     )
 
@@ -78,14 +87,14 @@ add-w c = search needs
 
 array-share-prefix-x : tie.Need-array-share-prefix-x
 array-share-prefix-x c =
-    let z = c .before .before .before .before .before in
+    let z = c .before .before .before .before .before .before in
     let a = z .args in
     let x = c .before .extend in
     omega (arith, z .pre .0 .unknowns, whole (a .i) (a .e) (x .last .1 .0) (omega (arith, z .pre .0 .unknowns)) (x .kept .1 .0))
 
 slice-aggregate-turn : tie.Need-slice-aggregate-turn
 slice-aggregate-turn c =
-    let z = c .before .before .before .before .before .before in
+    let z = c .before .before .before .before .before .before .before in
     let a = z .args in
     let x = c .before .before .extend in
     let e = whole (a .i) (a .e) (x .last .1 .0) (omega (arith, z .pre .0 .unknowns)) (x .kept .1 .0) in
@@ -93,7 +102,7 @@ slice-aggregate-turn c =
 
 turn-requires : tie.Need-turn-requires
 turn-requires c κs =
-    let z = c .before .before .before .before .before .before .before in
+    let z = c .before .before .before .before .before .before .before .before in
     let a = z .args in
     let x = c .before .before .before .extend in
     let e = whole (a .i) (a .e) (x .last .1 .0) (omega (arith, z .pre .0 .unknowns)) (x .kept .1 .0) in
@@ -108,7 +117,7 @@ same-length c = search needs
 
 returns : tie.Need-returns
 returns c =
-    let z = c .before .before .before .before .before .before .before .before .before .before in
+    let z = c .before .before .before .before .before .before .before .before .before .before .before in
     let a = z .args in
     let x = c .before .before .before .before .before .before .extend in
     c .before .before .turn .ensures
@@ -124,6 +133,8 @@ vector-into-spec =
     mul-x
     array-write-x
     add-used
+    add-packed-size
+    packed-size-requires
     array-borrow-prefix-x
     slice-aggregate-extend
     sub-extend

@@ -6,8 +6,8 @@ use native.Mathlib.Omega.{arith}
 use lib.ListN.{length, replicate}
 use lib.Seq.{length-take-le}
 use Rattle.tableau.specs.Packed.{triangle}
+use Rattle.tableau.proofs.Packed.{triangle-mono}
 use Rattle.system.specs.Posed.{Posed}
-use Rattle.system.proofs.Rows.{triangle-mono}
 use Rattle.equations.proofs.Lines.{equations-few}
 use borrow.Author.Needs.{needs}
 use Rattle.system.proofs.runs.refutation.Statement.{statement}

@@ -5,7 +5,7 @@ use native.Mathlib.Omega.{arith}
 use lib.ListN.{replicate}
 use lib.Seq.{length-take-le}
 use Rattle.tableau.specs.Packed.{triangle}
-use Rattle.system.proofs.Rows.{triangle-mono}
+use Rattle.tableau.proofs.Packed.{triangle-mono}
 use borrow.Author.Needs.{needs}
 use Rattle.system.proofs.runs.solution.Statement.{statement}
 use Rattle.system.proofs.runs.solution.Tie as tie
