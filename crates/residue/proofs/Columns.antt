@@ -4,12 +4,13 @@
 -- stays small.
 --   column-first, column-second   the two columns that the chain begins with
 --   column-step                   one division
+--   column-given                  b divided by a, for a below b: two divisions, and the first has the quotient 0
 --   column-fits                   the new entry of a column is no larger than the sum
---   column-even, column-odd       the cofactor at the end of the chain
-use mathlib.Core.Bool.{Bool, true, false, not}
+--   column-end, column-quotient   the cofactor at the end of the chain, and the quotient of the sum by the divisor
+use mathlib.Core.Bool.{Bool, true, false, not, cond, Bool·not-not}
 use mathlib.Core.Path.{_≡_, sym, ap, _∙_}
 use Prim.Native.Nat.{ℕ, zero, suc, _+_, _-_, _*_, _/_, _%_, _≤_, _<_}
-use native.Mathlib.Nat.{div-add-mod', sub-add-cancel, mod-eq-of-lt, le-of-lt}
+use native.Mathlib.Nat.{div-add-mod', sub-add-cancel, mod-eq-of-lt, div-eq-of-lt, div-eq-of-eq-mul-left, le-of-lt}
 use native.Mathlib.Omega.{arith}
 use Rattle.residue.specs.Congruent.{Congruent}
 use Rattle.residue.specs.Negative.{negative}
@@ -69,6 +70,16 @@ column-step odd {m} {sum} {z} {x} {y} {u} {v} pos h c =
       size = size-step x y u v sum (x / y) (x % y) (div-add-mod' x y) (c .size);
     }
 
+pub column-given : (odd : Bool) {m sum z a b u v : ℕ} → 0 < m → 0 < a → a < b
+    → Column odd m sum z a b u v → Column odd m sum z a (b % a) u (v + b / a * u)
+column-given odd {m} {sum} {z} {a} {b} {u} {v} pos h small c =
+    rw (Bool·not-not odd) at (column-step (not odd) pos h swapped)
+  where
+    swapped : Column (not odd) m sum z b a v u
+    swapped =
+        let e : u + a / b * v ≡ u = rw (div-eq-of-lt small) (omega arith) in
+        rw (e, mod-eq-of-lt small) at (column-step odd pos (omega arith) c)
+
 pub column-fits : {odd : Bool} {m sum z x y u v : ℕ} → 0 < y → Column odd m sum z x y u v → u + x / y * v ≤ sum
 column-fits {x = x} {y = y} {u = u} {v = v} h c =
     go y (x % y) (u + x / y * v) h (size-step x y u v _ (x / y) (x % y) (div-add-mod' x y) (c .size))
@@ -81,16 +92,18 @@ times-one : (m u : ℕ) → Congruent m (1 % m * u) u
 times-one m u =
     congruent-trans (congruent-mul (congruent-mod m 1) congruent-refl) (congruent-of-eq {a = 1 * u} (omega arith))
 
-pub column-even : {m sum z x u v : ℕ} → z < m → Column false m sum z x 0 u v → z ≡ u % m
-column-even {m} {sum} {z} {x} {u} {v} small c =
+pub column-end : (odd : Bool) {m sum z x u v : ℕ} → z < m → Column odd m sum z x 0 u v
+    → z ≡ cond odd (negative m u % m) (u % m)
+column-end false {m} {sum} {z} {x} {u} {v} small c =
     let h : Congruent m (z + 0 * v) (1 % m * u) = rw (cofactors-zero m x) at (c .value) in
     sym (mod-eq-of-lt small)
     ∙ congruent-trans {b = z + 0 * v} (congruent-of-eq (omega arith)) (congruent-trans h (times-one m u)) .same
-
-pub column-odd : {m sum z x u v : ℕ} → z < m → Column true m sum z x 0 u v → z ≡ negative m u % m
-column-odd {m} {sum} {z} {x} {u} {v} small c =
+column-end true {m} {sum} {z} {x} {u} {v} small c =
     let h : Congruent m (z + 1 % m * u) (0 * v) = rw (cofactors-zero m x) at (c .value) in
     sym (mod-eq-of-lt small)
     ∙ negative-unique m u (omega arith)
     (congruent-trans (congruent-add congruent-refl (congruent-sym (times-one m u)))
     (congruent-trans h (congruent-of-eq (omega arith)))) .same
+
+pub column-quotient : {odd : Bool} {m sum z x u v : ℕ} → 0 < x → Column odd m sum z x 0 u v → v ≡ sum / x
+column-quotient {u = u} h c = sym (div-eq-of-eq-mul-left h (omega (arith, c .size)))

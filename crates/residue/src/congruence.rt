@@ -30,12 +30,12 @@ pub fn solutions(a: u32, b: u32, m: u32) -> Solved
     requires { ⌜ 0 < m ⌝ }
     ensures { λ r. ⌜ r ≡ solutionsOf a b m ⌝ }
 {
-    let bezout = cofactors(m, a, m);
+    let bezout = cofactors(m, a, m, 0, m);
     let divisor = bezout.divisor;
     if b % divisor != 0 {
         return Solved::NoSolution;
     }
-    let spacing = m / divisor;
+    let spacing = bezout.p;
     let least = mul(bezout.s, b / divisor, spacing);
     Solved::Solutions(least, spacing)
 }

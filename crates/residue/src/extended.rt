@@ -1,9 +1,8 @@
 // Euclid's chain with cofactors, as residues: for the quotients q and p of a pair by its divisor, s·q + t·p ≡ 1 (mod m).
 ghost use mathlib.Core.Path.{_≡_};
-ghost use Prim.Native.Nat.{_<_};
+ghost use mathlib.Core.Bool.{cond};
+ghost use Prim.Native.Nat.{_+_, _*_, _%_, _<_};
 ghost use Rattle.residue.specs.Cofactors.{bezoutOf};
-ghost use mathlib.Core.Bool.{true, false};
-ghost use Prim.Native.Nat.{_%_};
 ghost use Rattle.residue.specs.Negative.{negative};
 use super::modular::negate;
 use super::modular::remainder;
@@ -12,29 +11,34 @@ pub struct Bezout {
     pub divisor: u32,
     pub s: u32,
     pub t: u32,
+    // the quotients of a and b by the divisor
+    pub q: u32,
+    pub p: u32,
 }
 
 // One pass over the chain, with no remainder by m before its end: without their signs the cofactors never exceed a and b, and
-// the signs alternate, so that one bit keeps them. The last division of most chains is one by 1, and is not made.
-pub fn cofactors(m: u32, a: u32, b: u32) -> Bezout
-    requires { ⌜ 0 < m ⌝ }
+// the signs alternate, so that one bit keeps them. The last division of most chains is one by 1, and is not made. b is given as
+// rest + quotient·a: whoever has divided b by a does not divide again, and whoever has not gives (0, b). Where the chain ends with
+// 0, the next cofactors would be the quotients of b and a by the divisor.
+pub fn cofactors(m: u32, a: u32, b: u32, quotient: u32, rest: u32) -> Bezout
+    requires { ⌜ (0 < m) × (0 < rest) × (b ≡ rest + quotient * a) × (0 < quotient → rest < a) ⌝ }
     ensures { λ r. ⌜ r ≡ bezoutOf m a b ⌝ }
     ensures { λ r. ⌜ (r .s < m) × (r .t < m) ⌝ }
 {
     let mut x = a;
-    let mut y = b;
+    let mut y = rest;
     let mut s: u32 = 1;
-    let mut s_next: u32 = 0;
+    let mut s_next = quotient;
     let mut t: u32 = 0;
     let mut t_next: u32 = 1;
     let mut odd = false;
     while y > 1 {
-        let quotient = x / y;
-        let rest = x % y;
-        let s_after = s + quotient * s_next;
-        let t_after = t + quotient * t_next;
+        let times = x / y;
+        let y_after = x % y;
+        let s_after = s + times * s_next;
+        let t_after = t + times * t_next;
         x = y;
-        y = rest;
+        y = y_after;
         s = s_next;
         s_next = s_after;
         t = t_next;
@@ -42,30 +46,32 @@ pub fn cofactors(m: u32, a: u32, b: u32) -> Bezout
         odd = !odd;
     }
     if y == 1 {
-        signed(y, s_next, t_next, !odd, m)
+        Bezout {
+            divisor: 1,
+            s: signed(s_next, !odd, m),
+            t: signed(t_next, odd, m),
+            q: a,
+            p: b,
+        }
     } else {
-        signed(x, s, t, odd, m)
+        Bezout {
+            divisor: x,
+            s: signed(s, odd, m),
+            t: signed(t, !odd, m),
+            q: t_next,
+            p: s_next,
+        }
     }
 }
 
-// The cofactors with their signs: after an odd number of divisions s is the negative one, else t.
-fn signed(divisor: u32, s: u32, t: u32, odd: bool, m: u32) -> Bezout
+// A cofactor with its sign: after an odd number of divisions s is the negative one, else t.
+fn signed(size: u32, minus: bool, m: u32) -> u32
     requires { ⌜ 0 < m ⌝ }
-    ensures { λ r. ⌜ (r .divisor ≡ divisor) × (r .s < m) × (r .t < m) ⌝ }
-    ensures { λ r. ⌜ (odd ≡ true → (r .s ≡ negative m s % m) × (r .t ≡ t % m))
-        × (odd ≡ false → (r .s ≡ s % m) × (r .t ≡ negative m t % m)) ⌝ }
+    ensures { λ r. ⌜ (r ≡ cond minus (negative m size % m) (size % m)) × (r < m) ⌝ }
 {
-    if odd {
-        Bezout {
-            divisor: divisor,
-            s: negate(s, m),
-            t: remainder(t, m),
-        }
+    if minus {
+        negate(size, m)
     } else {
-        Bezout {
-            divisor: divisor,
-            s: remainder(s, m),
-            t: negate(t, m),
-        }
+        remainder(size, m)
     }
 }

@@ -3,7 +3,7 @@
 --   row-head                          the row's first entry is a pivot
 --   column-zero                       the line's entry is 0
 --   column-divided                    the pivot divides it
---   column-reduced                    neither; with `reduction`, its numbers, and `divisor-positive`
+--   column-reduced                    neither; with `reduction`, its numbers, and `quotient-le`
 --   column-first                      the row holds nothing yet
 --   column-used-up                    and its new pivot is 1, so that nothing is left of the line
 --   not-both                          a line is used up or it is not
@@ -11,7 +11,7 @@ use mathlib.Core.Path.{_≡_, refl, sym, ap, ap₂, _∙_, subst, subst₂}
 use mathlib.Core.Bool.{Bool, true, false}
 use mathlib.Core.List.{List, [], _∷_}
 use Prim.Native.Nat.{ℕ, zero, suc, _+_, _-_, _*_, _/_, _%_, _≤_, _<_}
-use native.Mathlib.Nat.{suc-inj, sub-zero, div-one, zero-mod, mod-self, mod-eq-of-lt}
+use native.Mathlib.Nat.{suc-inj, sub-zero, div-one, div-le-self, zero-mod, mod-self, mod-eq-of-lt}
 use native.Mathlib.Omega.{arith}
 use lib.ListN.{length, drop, getD, set, replicate}
 use borrow.Author.Tests.{eq-eqb, ne-eqb}
@@ -85,14 +85,14 @@ abbrev pub Reduction : ℕ → ℕ → ℕ → ℕ → ℕ → ℕ → ℕ → �
 Reduction m d v g s t p n =
     (g ≡ gcd d v) × (s ≡ cofactors m d v .s) × (t ≡ cofactors m d v .t) × (p ≡ v / g) × (n ≡ negative m (d / g) % m)
 
-pub divisor-positive : (m d v : ℕ) (c : Bezout) → 0 < v → c ≡ bezoutOf m d v → 0 < c .divisor
+pub quotient-le : (m d v : ℕ) (c : Bezout) → c ≡ bezoutOf m d v → c .p ≤ v
 unfolding bezoutOf
-divisor-positive m d v c h e = rw e (gcd-positive d v (omega arith))
+quotient-le m d v c e = rw e (div-le-self v (gcd d v))
 
-pub reduction : (m d v : ℕ) (c : Bezout) (n : ℕ) → c ≡ bezoutOf m d v → n ≡ negative m (d / c .divisor) % m
-    → Reduction m d v (c .divisor) (c .s) (c .t) (v / c .divisor) n
+pub reduction : (m d v : ℕ) (c : Bezout) (n : ℕ) → c ≡ bezoutOf m d v → n ≡ negative m (c .q) % m
+    → Reduction m d v (c .divisor) (c .s) (c .t) (c .p) n
 unfolding bezoutOf
-reduction m d v c n e f = (ap (λ (c : Bezout). c .divisor) e, ap (λ (c : Bezout). c .s) e, ap (λ (c : Bezout). c .t) e, refl, f)
+reduction m d v c n e f = rw (f, e) (refl, refl, refl, refl, refl)
 
 pub column-reduced : (m g s t p n : ℕ) (R W r l : List ℕ) → 0 < length R → length R ≡ length W → RowKept m R → Below m W
     → 0 < getD W 0 0 → (getD W 0 0 % getD R 0 0 ≡ 0 → ⊥) → Reduction m (getD R 0 0) (getD W 0 0) g s t p n
@@ -162,17 +162,16 @@ no-multiple m d v e pos small z = omega (arith, mod-eq-of-lt small, ap (λ (x : 
 
 pub column-first : (m : ℕ) (c : Bezout) (n : ℕ) (R W r l : List ℕ) → 0 < length R → length R ≡ length W → RowKept m R
     → Below m W → getD R 0 0 ≡ m → 0 < getD W 0 0 → getD W 0 0 < m → c ≡ bezoutOf m m (getD W 0 0)
-    → n ≡ negative m (m / c .divisor) % m
+    → n ≡ negative m (c .q) % m
     → r ≡ combine m 0 (c .t) (lent 1 W) (lent 1 W)
     → l ≡ combine m 0 n (lent 1 W) (lent 1 W)
     → Inserted m R W (set (putBack 1 R r) 0 (c .divisor)) (putBack 1 W l)
 column-first m c n R W r l h e k b full pos small is minus i j =
     let d = getD R 0 0 in let v = getD W 0 0 in
-    column-reduced m (c .divisor) (c .s) (c .t) (v / c .divisor) n R W r l h e k b pos (no-multiple m d v full pos small)
-    (reduction m d v c n (is ∙ ap (λ (x : ℕ). bezoutOf m x v) (sym full))
-    (minus ∙ ap (λ (x : ℕ). negative m (x / c .divisor) % m) (sym full)))
+    column-reduced m (c .divisor) (c .s) (c .t) (c .p) n R W r l h e k b pos (no-multiple m d v full pos small)
+    (reduction m d v c n (is ∙ ap (λ (x : ℕ). bezoutOf m x v) (sym full)) minus)
     (i ∙ blank-combine m (c .s) (c .t) R W h e k full)
-    (j ∙ blank-combine m (v / c .divisor) n R W h e k full)
+    (j ∙ blank-combine m (c .p) n R W h e k full)
 
 -- ---- what is left of the line behind a row that held nothing
 
@@ -188,17 +187,20 @@ nothing-left m (x ∷ w) =
     let e : 0 * x + 0 * x ≡ 0 = omega arith in
     ap₂ {C = List ℕ} (λ y u. y ∷ u) (ap (λ (z : ℕ). z % m) e ∙ zero-mod m) (nothing-left m w)
 
-nothing-inserted : (m g n : ℕ) (W : List ℕ) (B : List (List ℕ)) → g ≡ 1 → n ≡ negative m (m / g) % m
-    → insert m B (combine m 0 n W W) ≡ B
+nothing-inserted : (m q : ℕ) (W : List ℕ) (B : List (List ℕ)) → q ≡ m → insert m B (combine m 0 (negative m q % m) W W) ≡ B
 unfolding negative
-nothing-inserted m g n W B e f =
+nothing-inserted m q W B e =
     ap (insert m B) (ap (λ (k : ℕ). combine m 0 k W W) none ∙ nothing-left m W) ∙ insert-zeros m (length W) B
   where
-    none : n ≡ 0
+    none : negative m q % m ≡ 0
     none =
-        f ∙ ap (λ (k : ℕ). (m - m / k % m) % m) e
-        ∙ ap (λ (k : ℕ). (m - k % m) % m) (div-one m)
+        ap (λ (k : ℕ). (m - k % m) % m) e
         ∙ ap (λ (k : ℕ). (m - k) % m) (mod-self m) ∙ ap (λ (k : ℕ). k % m) (sub-zero m) ∙ mod-self m
+
+whole-quotient : (m d v : ℕ) (c : Bezout) → c ≡ bezoutOf m d v → c .divisor ≡ 1 → c .q ≡ d
+unfolding bezoutOf
+whole-quotient m d v c e one =
+    ap (λ (c : Bezout). c .q) e ∙ ap (λ (g : ℕ). d / g) (sym (ap (λ (c : Bezout). c .divisor) e) ∙ one) ∙ div-one d
 
 pub column-used-up : (m : ℕ) (c : Bezout) (R W r : List ℕ) → 0 < length R → length R ≡ length W → RowKept m R
     → Below m W → getD R 0 0 ≡ m → 0 < getD W 0 0 → getD W 0 0 < m → c ≡ bezoutOf m m (getD W 0 0) → c .divisor ≡ 1
@@ -206,7 +208,7 @@ pub column-used-up : (m : ℕ) (c : Bezout) (R W r : List ℕ) → 0 < length R 
     → UsedUp m R W (set (putBack 1 R r) 0 (c .divisor))
 column-used-up m c R [] r h e k b full pos small is one i = absurd (omega arith)
 column-used-up m c R (v ∷ W) r h e k b full pos small is one i =
-    let n = negative m (m / c .divisor) % m in
+    let n = negative m (c .q) % m in
     let l = combine m 0 n (lent 1 (v ∷ W)) (lent 1 (v ∷ W)) in
     let C = column-first m c n R (v ∷ W) r l h e k b full pos small is refl i refl in
     record {
@@ -214,7 +216,7 @@ column-used-up m c R (v ∷ W) r h e k b full pos small is one i =
           C .same B
           ∙ ap {B = List (List ℕ)} (λ w. set (putBack 1 R r) 0 (c .divisor) ∷ w)
           (ap (λ (w : List ℕ). insert m B (drop 1 w)) (put-back-is 1 (v ∷ W) l)
-          ∙ nothing-inserted m (c .divisor) n (lent 1 (v ∷ W)) B one refl);
+          ∙ nothing-inserted m (c .q) (lent 1 (v ∷ W)) B (whole-quotient m m v c is one));
       kept = C .kept;
     }
 

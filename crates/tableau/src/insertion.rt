@@ -24,7 +24,8 @@ fn insert_first(row: &mut [u32], line: &mut [u32], m: u32, inverse: u64) -> bool
     ensures { λ r. ⌜ (r ≡ false → Inserted m (now (row .entry)) (now (line .entry)) (now (row .exit)) (now (line .exit))) ⌝ }
     ensures { λ r. ⌜ (r ≡ true → UsedUp m (now (row .entry)) (now (line .entry)) (now (row .exit))) ⌝ }
 {
-    let c = cofactors(m, m, line[0]);
+    let v = line[0];
+    let c = cofactors(m, m, v, 0, v);
     let g = c.divisor;
     let t = c.t;
     multiple(&mut row[1..], &line[1..], m, inverse, t);
@@ -32,7 +33,7 @@ fn insert_first(row: &mut [u32], line: &mut [u32], m: u32, inverse: u64) -> bool
     if g == 1 {
         return true;
     }
-    scale(&mut line[1..], m, inverse, negate(m / g, m));
+    scale(&mut line[1..], m, inverse, negate(c.q, m));
     false
 }
 
@@ -67,7 +68,7 @@ pub fn insert_at(row: &mut [u32], line: &mut [u32], m: u32, inverse: u64) -> boo
         } else if divides(d, v) {
             reduce(&row[1..], &mut line[1..], m, inverse, quotient(v, d));
         } else {
-            let c = cofactors(m, d, v);
+            let c = cofactors(m, d, v, 0, v);
             let g = c.divisor;
             let s = c.s;
             let t = c.t;
@@ -78,8 +79,8 @@ pub fn insert_at(row: &mut [u32], line: &mut [u32], m: u32, inverse: u64) -> boo
                 inverse,
                 s,
                 t,
-                v / g,
-                negate(d / g, m),
+                c.p,
+                negate(c.q, m),
             );
             row[0] = g;
         }

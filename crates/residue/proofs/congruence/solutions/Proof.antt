@@ -22,15 +22,19 @@ module _ (a b m : ℕ) (z : Bezout) (pos : 0 < m) (is : z ≡ bezoutOf m a m) wh
   divisor-positive : 0 < z .divisor
   divisor-positive = rw divisor (gcd-positive a m (omega arith))
 
-  spacing-positive : 0 < m / z .divisor
+  spacing : z .p ≡ m / z .divisor
+  unfolding bezoutOf
+  spacing = rw is
+
+  spacing-positive : 0 < z .p
   spacing-positive =
-      le-div-iff-mul-le {k = z .divisor} {x = 1} {y = m} divisor-positive .1 (rw divisor (omega (arith, gcd-le a m pos)))
+      rw spacing
+      (le-div-iff-mul-le {k = z .divisor} {x = 1} {y = m} divisor-positive .1 (rw divisor (omega (arith, gcd-le a m pos))))
 
   found-none : (b % z .divisor ≡ 0 → ⊥) → NoSolution ≡ solutionsOf a b m
   found-none h = sym (solutions-none a b m (rw divisor at h))
 
-  found : (t : ℕ) → b % z .divisor ≡ 0 → t ≡ z .s * (b / z .divisor) % (m / z .divisor)
-      → Solutions t (m / z .divisor) ≡ solutionsOf a b m
+  found : (t : ℕ) → b % z .divisor ≡ 0 → t ≡ z .s * (b / z .divisor) % z .p → Solutions t (z .p) ≡ solutionsOf a b m
   unfolding bezoutOf
   found t h e = rw (e, is) (sym (solutions-are a b m pos (rw divisor at h)))
 
@@ -47,11 +51,6 @@ returns c =
     let p = c .before .before .args in
     found-none (p .a) (p .b) (p .m) (c .before .cofactors .result) (omega arith) (c .before .cofactors .ensures .0)
     (c .if1 .taken)
-
-div-spacing : tie.Need-div-spacing
-div-spacing c =
-    let p = c .before .before .args in
-    divisor-positive (p .a) (p .b) (p .m) (c .before .cofactors .result) (omega arith) (c .before .cofactors .ensures .0)
 
 div-mul : tie.Need-div-mul
 div-mul c =
@@ -72,4 +71,4 @@ returns-2 c =
 pub solutions-spec : {M : Type 1} → statement M
 solutions-spec =
     tie.close
-    (tie.spec cofactors-requires rem-if1 returns div-spacing div-mul mul-requires returns-2)
+    (tie.spec cofactors-requires rem-if1 returns div-mul mul-requires returns-2)

@@ -1,6 +1,6 @@
 -- `insertion::insert_at` meets its contract: a row that holds nothing yet by the callee, and a law of proofs/Column.antt for each other way out.
 use mathlib.Core.Path.{_≡_, refl, sym, ap, _∙_, subst}
-use Prim.Native.Nat.{ℕ, _-_, _/_, _%_}
+use Prim.Native.Nat.{ℕ, _-_, _%_}
 use native.Mathlib.Omega.{arith}
 use lib.ListN.{getD}
 use borrow.Author.Needs.{needs}
@@ -10,7 +10,7 @@ use Rattle.residue.specs.Negative.{negative}
 use Rattle.equations.specs.Vectors.{combine, Below}
 use Rattle.equations.proofs.Vectors.{below-at, below-drop}
 use Rattle.slices.proofs.Parts.{lent, lent-is, lent-length}
-use Rattle.tableau.proofs.Column.{row-head, divisor-positive, reduction, column-zero, column-divided, column-reduced, not-both}
+use Rattle.tableau.proofs.Column.{row-head, quotient-le, reduction, column-zero, column-divided, column-reduced, not-both}
 use Rattle.tableau.proofs.insertion.insert_at.Statement.{statement}
 use Rattle.tableau.proofs.insertion.insert_at.Tie as tie
 
@@ -85,18 +85,6 @@ part-combine-both-start-2 c = search needs
 part-combine-both-end-2 : tie.Need-part-combine-both-end-2
 part-combine-both-end-2 c = search needs
 
-div-combine-both : tie.Need-div-combine-both
-div-combine-both c =
-    let z = c .before .before .before .before .before .before .before .before .before .before .before in
-    divisor-positive (z .args .m) (getD (z .args .row .now) 0 0) (getD (z .args .line .now) 0 0) (c .before .before .cofactors .result)
-    (omega arith) (c .before .before .cofactors .ensures .0)
-
-div-negate : tie.Need-div-negate
-div-negate c =
-    let z = c .before .before .before .before .before .before .before .before .before .before .before in
-    divisor-positive (z .args .m) (getD (z .args .row .now) 0 0) (getD (z .args .line .now) 0 0) (c .before .before .cofactors .result)
-    (omega arith) (c .before .before .cofactors .ensures .0)
-
 negate-requires : tie.Need-negate-requires
 negate-requires c κs = search needs
 
@@ -110,7 +98,8 @@ combine-both-requires c κs =
       omega (
         arith,
         below-at (z .args .m) 0 W (z .pre .3) (omega arith),
-        div-le-self (getD W 0 0) (c .before .before .before .cofactors .result .divisor),
+        quotient-le (z .args .m) (getD R 0 0) (getD W 0 0) (c .before .before .before .cofactors .result)
+            (c .before .before .before .cofactors .ensures .0),
       ),
       omega arith,
       lent-length 1 R ∙ ap (λ (n : ℕ). n - 1) (z .pre .1) ∙ sym (lent-length 1 W),
@@ -163,8 +152,7 @@ returns-3 c =
     let f = c .before .before .before .before .before .before .before .before .cofactors in
     let k = c .before .before .before .before .combine-both in
     let n = c .before .before .before .before .before .negate in (
-      λ _. column-reduced (a .m) (f .result .divisor) (f .result .s) (f .result .t) (getD (a .line .now) 0 0 / f .result .divisor)
-          (n .result)
+      λ _. column-reduced (a .m) (f .result .divisor) (f .result .s) (f .result .t) (f .result .p) (n .result)
           (a .row .now) (a .line .now) (k .last .0) (k .last .1 .0)
           (z .pre .0) (z .pre .1) (z .pre .2) (z .pre .3) (omega (arith, c .before .before .before .before .before .before .before .before .before .before .before .before .if1 .taken))
           (eqb-false _ _ (sym (c .before .before .before .before .before .before .before .before .before .before .divides .ensures) ∙ c .before .before .before .before .before .before .before .before .before .if3 .left))
@@ -207,8 +195,6 @@ insert-at-spec =
     sub-combine-both-2
     part-combine-both-start-2
     part-combine-both-end-2
-    div-combine-both
-    div-negate
     negate-requires
     combine-both-requires
     slice-write-row

@@ -1,15 +1,14 @@
 -- `insertion::insert_first` meets its contract: a combination with a row of zeros has the line's part only.
 use mathlib.Core.Path.{refl}
 use native.Mathlib.Omega.{arith}
-use lib.ListN.{getD}
 use borrow.Author.Needs.{needs}
 use Rattle.equations.proofs.Vectors.{below-at}
-use Rattle.tableau.proofs.Column.{row-head, divisor-positive, column-first, column-used-up, not-both}
+use Rattle.tableau.proofs.Column.{row-head, column-first, column-used-up, not-both}
 use Rattle.tableau.proofs.insertion.insert_first.Statement.{statement}
 use Rattle.tableau.proofs.insertion.insert_first.Tie as tie
 
-slice-read-cofactors : tie.Need-slice-read-cofactors
-slice-read-cofactors c = search needs
+slice-read-v : tie.Need-slice-read-v
+slice-read-v c = search needs
 
 cofactors-requires : tie.Need-cofactors-requires
 cofactors-requires c κs =
@@ -67,12 +66,6 @@ part-scale-start c = search needs
 part-scale-end : tie.Need-part-scale-end
 part-scale-end c = search needs
 
-div-negate : tie.Need-div-negate
-div-negate c =
-    let z = c .before .before .before .before .before .before .before .before .before .before .before .before in
-    let f = c .before .before .before .before .before .before .before .before .cofactors in
-    divisor-positive (z .args .m) (z .args .m) (getD (z .args .line .now) 0 0) (f .result) (z .pre .1 .1) (f .ensures .0)
-
 negate-requires : tie.Need-negate-requires
 negate-requires c κs = search needs
 
@@ -104,7 +97,7 @@ pub insert-first-spec : {M : Type 1} → statement M
 insert-first-spec =
     tie.close
     (tie.spec
-    slice-read-cofactors
+    slice-read-v
     cofactors-requires
     sub-multiple
     part-multiple-start
@@ -120,7 +113,6 @@ insert-first-spec =
     sub-scale
     part-scale-start
     part-scale-end
-    div-negate
     negate-requires
     scale-requires
     same-length-3
