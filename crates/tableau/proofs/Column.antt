@@ -3,7 +3,7 @@
 --   row-head                          the row's first entry is a pivot
 --   column-zero                       the line's entry is 0
 --   column-divided                    the pivot divides it
---   column-reduced                    neither; with `reduction`, its numbers, and `quotient-le`
+--   column-reduced                    neither; with `divided` and `quotient-le` of its quotients, and `reduction`, its numbers
 --   column-first                      the row holds nothing yet
 --   column-used-up                    and its new pivot is 1, so that nothing is left of the line
 --   not-both                          a line is used up or it is not
@@ -11,7 +11,7 @@ use mathlib.Core.Path.{_≡_, refl, sym, ap, ap₂, _∙_, subst, subst₂}
 use mathlib.Core.Bool.{Bool, true, false}
 use mathlib.Core.List.{List, [], _∷_}
 use Prim.Native.Nat.{ℕ, zero, suc, _+_, _-_, _*_, _/_, _%_, _≤_, _<_}
-use native.Mathlib.Nat.{suc-inj, sub-zero, div-one, div-le-self, zero-mod, mod-self, mod-eq-of-lt}
+use native.Mathlib.Nat.{suc-inj, sub-zero, div-one, div-le-self, div-add-mod', mod-lt, zero-mod, mod-self, mod-eq-of-lt}
 use native.Mathlib.Omega.{arith}
 use lib.ListN.{length, drop, getD, set, replicate}
 use borrow.Author.Tests.{eq-eqb, ne-eqb}
@@ -84,6 +84,12 @@ reduced-insert m d v R W B e = rw (ne-eqb (suc v % d) 0 e)
 abbrev pub Reduction : ℕ → ℕ → ℕ → ℕ → ℕ → ℕ → ℕ → ℕ → Type 0
 Reduction m d v g s t p n =
     (g ≡ gcd d v) × (s ≡ cofactors m d v .s) × (t ≡ cofactors m d v .t) × (p ≡ v / g) × (n ≡ negative m (d / g) % m)
+
+pub divided : (v d q r : ℕ) → 0 < d → q ≡ v / d → r ≡ v % d → (v ≡ r + q * d) × (r < d)
+divided v d q r pos e f = (rw (e, f) (sum (v / d * d) (v % d) (div-add-mod' v d)), rw f (mod-lt v pos))
+  where
+    sum : (x y : ℕ) → x + y ≡ v → v ≡ y + x
+    sum x y g = omega (arith, g)
 
 pub quotient-le : (m d v : ℕ) (c : Bezout) → c ≡ bezoutOf m d v → c .p ≤ v
 unfolding bezoutOf

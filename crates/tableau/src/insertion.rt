@@ -2,7 +2,6 @@
 ghost use mathlib.Core.Path.{_≡_};
 ghost use mathlib.Core.Bool.{true, false};
 ghost use Prim.Native.Nat.{_/_, _%_, _<_, _≤_};
-ghost use lib.Dec.{eqb};
 ghost use lib.ListN.{length, getD};
 ghost use Rattle.residue.specs.Inverse.{inverseOf};
 ghost use Rattle.equations.specs.Vectors.{Below};
@@ -38,18 +37,18 @@ fn insert_first(row: &mut [u32], line: &mut [u32], m: u32, inverse: u64) -> bool
 }
 
 // Most pivots are 1 soon, and a division by 1 is left out.
-fn divides(d: u32, v: u32) -> bool
-    requires { ⌜ 0 < d ⌝ }
-    ensures { λ r. ⌜ r ≡ eqb (v % d) 0 ⌝ }
-{
-    if d == 1 { true } else { v % d == 0 }
-}
-
 fn quotient(v: u32, d: u32) -> u32
     requires { ⌜ 0 < d ⌝ }
     ensures { λ r. ⌜ r ≡ v / d ⌝ }
 {
     if d == 1 { v } else { v / d }
+}
+
+fn remainder(v: u32, d: u32) -> u32
+    requires { ⌜ 0 < d ⌝ }
+    ensures { λ r. ⌜ r ≡ v % d ⌝ }
+{
+    if d == 1 { 0 } else { v % d }
 }
 
 // One column; whether the line is used up. Nothing is done where the line's entry is 0, and the row stays where its
@@ -65,10 +64,13 @@ pub fn insert_at(row: &mut [u32], line: &mut [u32], m: u32, inverse: u64) -> boo
     if v > 0 {
         if d == m {
             return insert_first(row, line, m, inverse);
-        } else if divides(d, v) {
-            reduce(&row[1..], &mut line[1..], m, inverse, quotient(v, d));
+        }
+        let times = quotient(v, d);
+        let rest = remainder(v, d);
+        if rest == 0 {
+            reduce(&row[1..], &mut line[1..], m, inverse, times);
         } else {
-            let c = cofactors(m, d, v, 0, v);
+            let c = cofactors(m, d, v, times, rest);
             let g = c.divisor;
             let s = c.s;
             let t = c.t;

@@ -4,13 +4,12 @@ use Prim.Native.Nat.{ℕ, _-_, _%_}
 use native.Mathlib.Omega.{arith}
 use lib.ListN.{getD}
 use borrow.Author.Needs.{needs}
-use borrow.Author.Tests.{eqb-true, eqb-false}
 use native.Mathlib.Nat.{div-le-self}
 use Rattle.residue.specs.Negative.{negative}
 use Rattle.equations.specs.Vectors.{combine, Below}
 use Rattle.equations.proofs.Vectors.{below-at, below-drop}
 use Rattle.slices.proofs.Parts.{lent, lent-is, lent-length}
-use Rattle.tableau.proofs.Column.{row-head, quotient-le, reduction, column-zero, column-divided, column-reduced, not-both}
+use Rattle.tableau.proofs.Column.{row-head, divided, quotient-le, reduction, column-zero, column-divided, column-reduced, not-both}
 use Rattle.tableau.proofs.insertion.insert_at.Statement.{statement}
 use Rattle.tableau.proofs.insertion.insert_at.Tie as tie
 
@@ -23,9 +22,23 @@ slice-read-v c = search needs
 insert-first-requires : tie.Need-insert-first-requires
 insert-first-requires c κs = search needs
 
-divides-requires : tie.Need-divides-requires
-divides-requires c κs =
+same-length : tie.Need-same-length
+same-length c = search needs
+
+same-length-2 : tie.Need-same-length-2
+same-length-2 c = search needs
+
+returns : tie.Need-returns
+returns c = search needs
+
+quotient-requires : tie.Need-quotient-requires
+quotient-requires c κs =
     let z = c .before .before .before .before .before .before in
+    omega (arith, row-head (z .args .m) (z .args .row .now) (z .pre .0) (z .pre .2))
+
+remainder-requires : tie.Need-remainder-requires
+remainder-requires c κs =
+    let z = c .before .before .before .before .before .before .before in
     omega (arith, row-head (z .args .m) (z .args .row .now) (z .pre .0) (z .pre .2))
 
 sub-reduce : tie.Need-sub-reduce
@@ -46,11 +59,6 @@ part-reduce-start-2 c = search needs
 part-reduce-end-2 : tie.Need-part-reduce-end-2
 part-reduce-end-2 c = search needs
 
-quotient-requires : tie.Need-quotient-requires
-quotient-requires c κs =
-    let z = c .before .before .before .before .before .before .before .before .before .before .before in
-    omega (arith, row-head (z .args .m) (z .args .row .now) (z .pre .0) (z .pre .2))
-
 reduce-requires : tie.Need-reduce-requires
 reduce-requires c κs =
     let z = c .before .before .before .before .before .before .before .before .before .before .before .before in
@@ -64,8 +72,14 @@ reduce-requires c κs =
 
 cofactors-requires : tie.Need-cofactors-requires
 cofactors-requires c κs =
-    let z = c .before .before .before .before .before .before .before .before in
-    omega (arith, row-head (z .args .m) (z .args .row .now) (z .pre .0) (z .pre .2))
+    let z = c .before .before .before .before .before .before .before .before .before in
+    let d = getD (z .args .row .now) 0 0 in
+    let v = getD (z .args .line .now) 0 0 in
+    let pos = row-head (z .args .m) (z .args .row .now) (z .pre .0) (z .pre .2) in
+    let q = c .before .before .quotient in
+    let r = c .before .remainder in
+    let e = divided v d (q .result) (r .result) (pos .0) (q .ensures) (r .ensures) in
+    (omega (arith, pos), omega arith, e .0, λ _. e .1)
 
 sub-combine-both : tie.Need-sub-combine-both
 sub-combine-both c = search needs
@@ -90,16 +104,16 @@ negate-requires c κs = search needs
 
 combine-both-requires : tie.Need-combine-both-requires
 combine-both-requires c κs =
-    let z = c .before .before .before .before .before .before .before .before .before .before .before .before in
+    let z = c .before .before .before .before .before .before .before .before .before .before .before .before .before in
     let R = z .args .row .now in
-    let W = z .args .line .now in (
+    let W = z .args .line .now in
+    let f = c .before .before .before .cofactors in (
       omega arith,
       omega arith,
       omega (
         arith,
         below-at (z .args .m) 0 W (z .pre .3) (omega arith),
-        quotient-le (z .args .m) (getD R 0 0) (getD W 0 0) (c .before .before .before .cofactors .result)
-            (c .before .before .before .cofactors .ensures .0),
+        quotient-le (z .args .m) (getD R 0 0) (getD W 0 0) (f .result) (f .ensures .0),
       ),
       omega arith,
       lent-length 1 R ∙ ap (λ (n : ℕ). n - 1) (z .pre .1) ∙ sym (lent-length 1 W),
@@ -108,15 +122,6 @@ combine-both-requires c κs =
 
 slice-write-row : tie.Need-slice-write-row
 slice-write-row c = search needs
-
-same-length : tie.Need-same-length
-same-length c = search needs
-
-same-length-2 : tie.Need-same-length-2
-same-length-2 c = search needs
-
-returns : tie.Need-returns
-returns c = search needs
 
 same-length-3 : tie.Need-same-length-3
 same-length-3 c = search needs
@@ -130,12 +135,12 @@ returns-2 c =
     let a = z .args in
     let R = a .row .now in
     let W = a .line .now in
-    let none : getD W 0 0 % getD R 0 0 ≡ 0 =
-    eqb-true _ _ (sym (c .before .before .before .before .before .before .before .before .divides .ensures) ∙ c .before .before .before .before .before .before .before .if3 .taken) in (
-      λ _. column-divided (a .m) R W (c .before .before .reduce .last .1 .0)
-          (z .pre .0) (z .pre .1) (z .pre .2) (z .pre .3) (omega arith) none
-          (c .before .before .reduce .ensures
-          ∙ ap (λ (p : ℕ). combine (a .m) p (negative (a .m) 1 % a .m) (lent 1 R) (lent 1 W)) (c .before .before .before .quotient .ensures)),
+    let k = c .before .before .reduce in (
+      λ _. column-divided (a .m) R W (k .last .1 .0)
+          (z .pre .0) (z .pre .1) (z .pre .2) (z .pre .3) (omega arith)
+          (sym (c .before .before .before .before .before .before .before .remainder .ensures) ∙ c .before .before .before .before .before .before .if3 .taken)
+          (k .ensures
+          ∙ ap (λ (p : ℕ). combine (a .m) p (negative (a .m) 1 % a .m) (lent 1 R) (lent 1 W)) (c .before .before .before .before .before .before .before .before .quotient .ensures)),
       λ e. not-both e refl,
     )
 
@@ -147,15 +152,15 @@ same-length-6 c = search needs
 
 returns-3 : tie.Need-returns-3
 returns-3 c =
-    let z = c .before .before .before .before .before .before .before .before .before .before .before .before .before .before .before .before .before in
+    let z = c .before .before .before .before .before .before .before .before .before .before .before .before .before .before .before .before .before .before in
     let a = z .args in
     let f = c .before .before .before .before .before .before .before .before .cofactors in
     let k = c .before .before .before .before .combine-both in
     let n = c .before .before .before .before .before .negate in (
       λ _. column-reduced (a .m) (f .result .divisor) (f .result .s) (f .result .t) (f .result .p) (n .result)
           (a .row .now) (a .line .now) (k .last .0) (k .last .1 .0)
-          (z .pre .0) (z .pre .1) (z .pre .2) (z .pre .3) (omega (arith, c .before .before .before .before .before .before .before .before .before .before .before .before .if1 .taken))
-          (eqb-false _ _ (sym (c .before .before .before .before .before .before .before .before .before .before .divides .ensures) ∙ c .before .before .before .before .before .before .before .before .before .if3 .left))
+          (z .pre .0) (z .pre .1) (z .pre .2) (z .pre .3) (omega (arith, c .before .before .before .before .before .before .before .before .before .before .before .before .before .if1 .taken))
+          (λ e. c .before .before .before .before .before .before .before .before .before .if3 .left (c .before .before .before .before .before .before .before .before .before .before .remainder .ensures ∙ e))
           (reduction (a .m) (getD (a .row .now) 0 0) (getD (a .line .now) 0 0) (f .result) (n .result) (f .ensures .0)
           (n .ensures .0))
           (k .ensures .0) (k .ensures .1),
@@ -179,14 +184,14 @@ insert-at-spec =
     same-length
     same-length-2
     returns
-    divides-requires
+    quotient-requires
+    remainder-requires
     sub-reduce
     part-reduce-start
     part-reduce-end
     sub-reduce-2
     part-reduce-start-2
     part-reduce-end-2
-    quotient-requires
     reduce-requires
     cofactors-requires
     sub-combine-both
