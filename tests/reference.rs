@@ -1,7 +1,7 @@
 //! The paper once more in plain Rust: it tries everything, is slow, and shares no code with the product.
 #![allow(dead_code)]
 
-/// "The greatest number that divides both", found by trying all of them; 0 for the pair (0, 0).
+/// The greatest number that divides both, found by trying all of them; 0 for the pair (0, 0).
 pub fn divisor_by_trying(a: u32, b: u32) -> u32 {
     (1..=a.max(b)).rev().find(|d| a % d == 0 && b % d == 0).unwrap_or(0)
 }
@@ -158,8 +158,8 @@ pub fn answer(system: &System) -> Option<Answer> {
     Some(Answer { start, steps: steps.into_iter().flatten().collect() })
 }
 
-/// The question that turns a call of milebadger_solve away, where there is one: "m in 2..4,294,967,295? 2. n 1..16? 3. Lines a
-/// multiple of n+1 long? 1. At most 16 lines? 5. All numbers below m? 6."
+/// The question that turns a call of milebadger_solve away, where there is one. The paper has no such call; it asks what the header
+/// says, in that order, with the numbers that the paper gives to questions of the same kind.
 pub fn solve_refusal(m: u32, n: u32, lines: &[u32]) -> Option<u32> {
     let questions = [
         (2, m >= 2),

@@ -60,7 +60,7 @@ pub fn play(tape: &[u8]) -> Played {
     Played { calls, left_over: tape.len() % 4 != 0 }
 }
 
-/// A line: the word, then the numbers, "parted by single spaces, with numbers in decimal without leading zeros"; at its "end one
+/// A line: the word, then the numbers, "parted by single spaces, with numbers in decimal without leading zeros"; it "ends in one
 /// byte 0x0A".
 fn line(name: &str, numbers: &[u32]) -> String {
     let numbers: String = numbers.iter().map(|number| format!(" {number}")).collect();
