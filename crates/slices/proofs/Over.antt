@@ -1,6 +1,4 @@
 -- What is written to the front of a lent list.
---   over-on      one number more is written
---   over-end     and all are
 --   over-fits    what is written fits
 --   over-front   it is what the front holds
 --   over-one     one element more behind it
@@ -13,22 +11,11 @@ use Prim.Native.Nat.{ℕ, suc, _+_, _<_, _≤_}
 use native.Mathlib.Numerals.{add-one}
 use native.Mathlib.Omega.{arith}
 use lib.ListN.{length, take, drop, getD, set, length-append}
-use lib.Seq.{take-length, take-suc, drop-cons, set-at, append-snoc, length-take-le, take-at, drop-drop}
+use lib.Seq.{drop-cons, set-at, append-snoc, take-at, drop-drop}
 use Rattle.slices.specs.Over.{over}
 use Rattle.slices.proofs.Parts.{lent, putBack, lent-behind, put-behind}
 
 module _ {A : Type 0} where
-  pub over-on : (i : ℕ) (xs old : List A) (z : A) → i < length xs → i < length old
-      → set (take i xs ++ drop i old) i (getD xs i z) ≡ take (i + 1) xs ++ drop (i + 1) old
-  over-on i xs old z h g =
-      rw (add-one, drop-cons old i z, take-suc xs i z)
-      (set-at (take i xs) (getD old i z) (drop (suc i) old) (getD xs i z) i (length-take-le i xs (omega arith))
-      ∙ sym (append-snoc (take i xs) (getD xs i z) (drop (suc i) old)))
-
-  pub over-end : (i : ℕ) (xs old : List A) → i ≡ length xs → take i xs ++ drop i old ≡ over xs old
-  over-end i xs old h =
-      ap (λ (k : ℕ). take k xs ++ drop k old) h ∙ ap (λ (z : List A). z ++ drop (length xs) old) (take-length xs)
-
   pub over-fits : (xs old : List A) {new : List A} → new ≡ over xs old → length xs ≤ length new
   over-fits xs old is = omega (arith, ap length is, length-append xs (drop (length xs) old))
 

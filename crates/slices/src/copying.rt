@@ -1,10 +1,9 @@
-// Numbers copied from one slice to another.
+// Numbers, or bytes, copied from one slice to another. What stands in `to` behind the copy is left alone.
 ghost use mathlib.Core.Path.{_≡_};
 ghost use Prim.Native.Nat.{_≤_};
 ghost use lib.ListN.{length};
 ghost use Rattle.slices.specs.Over.{over};
 
-// What stands in `to` behind the copy is left alone.
 pub fn copy(from: &[u32], to: &mut [u32])
     requires { ⌜ length (now from) ≤ length (now to) ⌝ }
     ensures { λ _. ⌜ now (to .exit) ≡ over (now (from .entry)) (now (to .entry)) ⌝ }
@@ -12,6 +11,18 @@ pub fn copy(from: &[u32], to: &mut [u32])
     let mut i = 0;
     while i < from.len() {
         to[i] = from[i];
+        i += 1;
+    }
+}
+
+// The same for bytes: a slice has one type of element.
+pub fn copy_bytes(bytes: &[u8], to: &mut [u8])
+    requires { ⌜ length (now bytes) ≤ length (now to) ⌝ }
+    ensures { λ _. ⌜ now (to .exit) ≡ over (now (bytes .entry)) (now (to .entry)) ⌝ }
+{
+    let mut i: usize = 0;
+    while i < bytes.len() {
+        to[i] = bytes[i];
         i += 1;
     }
 }

@@ -2,7 +2,6 @@
 // a head and 17 vectors of 16 entries, and so has an answer block; its lines have fewer than 4,096 bytes.
 mod answering;
 pub mod calling;
-mod copying;
 mod reading;
 pub mod running;
 pub mod telling;

@@ -6,9 +6,9 @@ ghost use Rattle.slices.specs.Over.{over};
 ghost use Rattle.tape.specs.Lines.{leftOverLine, mostBytes, lines};
 ghost use Rattle.tape.specs.Reader.{callRoom};
 use crate::calling::next;
-use crate::copying::copy_bytes;
 use crate::telling::refused;
 use sheet::Sheet;
+use slices::copying::copy_bytes;
 
 // The bytes of a tape, at most.
 pub const LARGEST: usize = 65536;

@@ -5,7 +5,7 @@ ghost use Prim.Native.Nat.{_+_, _*_, _<_, _≤_};
 ghost use lib.ListN.{length};
 ghost use Rattle.slices.specs.Over.{over};
 ghost use Rattle.tape.specs.Text.{decimal, spaced, lineOf};
-use crate::copying::copy_bytes;
+use slices::copying::copy_bytes;
 
 const SPACE: u8 = 32;
 

@@ -2,11 +2,11 @@
 -- The measure is what is left.
 use mathlib.Core.List.{List, _++_}
 use mathlib.Core.Path.{_≡_, sym, ap, ap₂, _∙_}
-use Prim.Native.Nat.{ℕ, _-_, _%_, _≤_}
+use Prim.Native.Nat.{ℕ, _-_, _%_}
 use native.Mathlib.Omega.{arith}
-use lib.ListN.{length, take, drop, set, length-set}
+use lib.ListN.{take, drop, set}
 use borrow.Author.Needs.{needs}
-use Rattle.slices.proofs.Over.{over-on}
+use Rattle.slices.proofs.Copied.{Copied, copied-none, copied-more}
 use Rattle.residue.specs.Negative.{negative}
 use Rattle.safe.specs.Model.Lines.{coefficients}
 use Rattle.safe.proofs.Laid.{length-coefficients, coefficient-at, line-end}
@@ -15,13 +15,13 @@ use Rattle.safe.proofs.lines.line_into.Tie as tie
 
 abbrev Inv-loop : tie.InvT-loop
 Inv-loop line₀ m columns n i x p₀ line p =
-    (p ≤ n) × (length line ≡ length line₀) × (line ≡ take p (coefficients columns i 0 n) ++ drop p line₀)
+    Copied p (coefficients columns i 0 n) line₀ line
 
 abbrev μ-loop : tie.MeasureT-loop
 μ-loop line₀ m columns n i x p₀ line p = n - p
 
 loop-holds : tie.Need-loop-holds Inv-loop μ-loop
-loop-holds c = search needs
+loop-holds c = let a = c .before .args in copied-none (coefficients (a .columns) (a .i) 0 (a .n)) (a .line .now)
 
 coefficient-requires : tie.Need-coefficient-requires Inv-loop μ-loop
 coefficient-requires c κs = search needs
@@ -43,14 +43,9 @@ loop-again c =
     let l = c .before .before .loop in
     let a = c .before .before .before .before .args in
     let cs = coefficients (a .columns) (a .i) 0 (a .n) in
-    let long = length-coefficients (a .columns) (a .i) 0 (a .n) in (
-      omega arith,
-      simp length-set (omega arith),
-      ap₂ (λ (z : List ℕ) (b : ℕ). set z (l .p) b) (l .inv .2)
-          (c .coefficient .ensures
-          ∙ sym (coefficient-at (a .columns) (a .i) 0 (a .n) (l .p) (l .p) (omega arith) (omega arith)))
-          ∙ over-on (l .p) cs (a .line .now) 0 (omega (arith, long)) (omega arith),
-    )
+    copied-more (l .p) cs (a .line .now) 0 (l .inv) (omega (arith, length-coefficients (a .columns) (a .i) 0 (a .n))) (omega arith)
+    (c .coefficient .ensures
+    ∙ sym (coefficient-at (a .columns) (a .i) 0 (a .n) (l .p) (l .p) (omega arith) (omega arith)))
 
 right-side-requires : tie.Need-right-side-requires Inv-loop μ-loop
 right-side-requires c κs = search needs
@@ -69,7 +64,7 @@ returns c =
     let l = c .before .before .loop in
     let a = c .before .before .before .before .args in
     let cs = coefficients (a .columns) (a .i) 0 (a .n) in
-    let all : l .p ≡ a .n = omega arith in
+    let all : l .p ≡ a .n = omega (arith, length-coefficients (a .columns) (a .i) 0 (a .n)) in
     ap₂ (λ (z : List ℕ) (b : ℕ). set z (a .n) b)
     (l .inv .2 ∙ ap (λ (k : ℕ). take k cs ++ drop k (a .line .now)) all) (c .right-side .ensures)
     ∙ line-end (a .n) (negative (a .m) (a .x) % a .m) cs (a .line .now) (length-coefficients (a .columns) (a .i) 0 (a .n))

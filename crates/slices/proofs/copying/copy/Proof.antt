@@ -1,23 +1,22 @@
 -- `copying::copy` meets its contract. The invariant: the first i numbers are copied, those behind them as they were. The
 -- measure is what is left.
-use mathlib.Core.Path.{_≡_, refl, ap, _∙_}
-use mathlib.Core.List.{List, _++_}
-use Prim.Native.Nat.{ℕ, _-_, _≤_}
+use mathlib.Core.Path.{refl}
+use Prim.Native.Nat.{_-_}
 use native.Mathlib.Omega.{arith}
-use lib.ListN.{length, take, drop, getD, set, length-set}
+use lib.ListN.{length}
 use borrow.Author.Needs.{needs}
-use Rattle.slices.proofs.Over.{over-on, over-end}
+use Rattle.slices.proofs.Copied.{Copied, copied-none, copied-more, copied-all}
 use Rattle.slices.proofs.copying.copy.Statement.{statement}
 use Rattle.slices.proofs.copying.copy.Tie as tie
 
 abbrev Inv-loop : tie.InvT-loop
-Inv-loop from to₀ i₀ to i = (i ≤ length from) × (length to ≡ length to₀) × (to ≡ take i from ++ drop i to₀)
+Inv-loop from to₀ i₀ to i = Copied i from to₀ to
 
 abbrev μ-loop : tie.MeasureT-loop
 μ-loop from to₀ i₀ to i = length from - i
 
 loop-holds : tie.Need-loop-holds Inv-loop μ-loop
-loop-holds c = (search needs, search needs, refl)
+loop-holds c = copied-none (c .args .from .now) (c .args .to .now)
 
 mul-to : tie.Need-mul-to Inv-loop μ-loop
 mul-to c = search needs
@@ -40,12 +39,8 @@ loop-less c = search needs
 loop-again : tie.Need-loop-again Inv-loop μ-loop
 loop-again c =
     let l = c .before .before .loop in
-    let a = c .before .before .before .args in (
-      omega arith,
-      simp length-set (omega arith),
-      ap (λ (z : List ℕ). set z (l .i) (getD (a .from .now) (l .i) 0)) (l .inv .2)
-          ∙ over-on (l .i) (a .from .now) (a .to .now) 0 (omega arith) (omega arith),
-    )
+    let a = c .before .before .before .args in
+    copied-more (l .i) (a .from .now) (a .to .now) 0 (l .inv) (omega arith) (omega arith) refl
 
 same-length : tie.Need-same-length Inv-loop μ-loop
 same-length c = search needs
@@ -54,7 +49,7 @@ returns : tie.Need-returns Inv-loop μ-loop
 returns c =
     let l = c .before .loop in
     let a = c .before .before .args in
-    l .inv .2 ∙ over-end (l .i) (a .from .now) (a .to .now) (omega arith)
+    copied-all (l .i) (a .from .now) (a .to .now) (l .inv) (omega arith)
 
 pub copy-spec : {M : Type 1} → statement M
 copy-spec =

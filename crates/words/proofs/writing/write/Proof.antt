@@ -1,19 +1,18 @@
 -- `writing::write` meets its contract. The invariant: the first i words are written, and behind them `out` is as it was. The
 -- measure is what is left.
-use mathlib.Core.Path.{_≡_, refl, sym, ap, _∙_}
-use mathlib.Core.List.{List, _++_}
-use Prim.Native.Nat.{ℕ, _≤_, _-_}
+use mathlib.Core.Path.{sym}
+use Prim.Native.Nat.{_-_}
 use native.Mathlib.Omega.{arith}
 use borrow.Author.Needs.{needs}
-use lib.ListN.{length, take, drop, getD, set, length-set, length-map, List·getD-map}
-use Rattle.slices.proofs.Over.{over-on, over-end}
+use lib.ListN.{length, length-map, List·getD-map}
+use Rattle.slices.proofs.Copied.{Copied, copied-none, copied-more, copied-all}
 use Rattle.equations.proofs.Vectors.{below-at}
 use Rattle.words.specs.Words.{numbersOfAKind, word, wordsOf}
 use Rattle.words.proofs.writing.write.Statement.{statement}
 use Rattle.words.proofs.writing.write.Tie as tie
 
 abbrev Inv-loop : tie.InvT-loop
-Inv-loop kind numbers out₀ first i₀ out i = (i ≤ length numbers) × (length out ≡ length out₀) × (out ≡ take i (wordsOf kind numbers) ++ drop i out₀)
+Inv-loop kind numbers out₀ first i₀ out i = Copied i (wordsOf kind numbers) out₀ out
 
 abbrev μ-loop : tie.MeasureT-loop
 μ-loop kind numbers out₀ first i₀ out i = length numbers - i
@@ -22,7 +21,7 @@ mul-first : tie.Need-mul-first Inv-loop μ-loop
 mul-first c = search needs
 
 loop-holds : tie.Need-loop-holds Inv-loop μ-loop
-loop-holds c = (search needs, search needs, refl)
+loop-holds c = let a = c .args in copied-none (wordsOf (a .kind) (a .numbers .now)) (a .out .now)
 
 mul-out : tie.Need-mul-out Inv-loop μ-loop
 mul-out c = search needs
@@ -51,15 +50,10 @@ loop-less c = search needs
 loop-again : tie.Need-loop-again Inv-loop μ-loop
 loop-again c =
     let a = c .before .before .before .args in
-    let l = c .before .before .loop in (
-      omega arith,
-      simp length-set (omega arith),
-      ap (λ (z : List ℕ). set z (l .i) (word (a .kind) (getD (a .numbers .now) (l .i) 0))) (l .inv .2)
-          ∙ ap (λ (x : ℕ). set (take (l .i) (wordsOf (a .kind) (a .numbers .now)) ++ drop (l .i) (a .out .now)) (l .i) x)
-          (sym (List·getD-map (word (a .kind)) (a .numbers .now) (l .i) 0))
-          ∙ over-on (l .i) (wordsOf (a .kind) (a .numbers .now)) (a .out .now) (word (a .kind) 0)
-          (omega (arith, length-map (a .numbers .now) (word (a .kind)))) (omega arith),
-    )
+    let l = c .before .before .loop in
+    copied-more (l .i) (wordsOf (a .kind) (a .numbers .now)) (a .out .now) (word (a .kind) 0) (l .inv)
+    (omega (arith, length-map (a .numbers .now) (word (a .kind)))) (omega arith)
+    (sym (List·getD-map (word (a .kind)) (a .numbers .now) (l .i) 0))
 
 same-length : tie.Need-same-length Inv-loop μ-loop
 same-length c = search needs
@@ -68,7 +62,8 @@ returns : tie.Need-returns Inv-loop μ-loop
 returns c =
     let a = c .before .before .args in
     let l = c .before .loop in
-    l .inv .2 ∙ over-end (l .i) (wordsOf (a .kind) (a .numbers .now)) (a .out .now) (omega (arith, length-map (a .numbers .now) (word (a .kind))))
+    copied-all (l .i) (wordsOf (a .kind) (a .numbers .now)) (a .out .now) (l .inv)
+    (omega (arith, length-map (a .numbers .now) (word (a .kind))))
 
 pub write-spec : {M : Type 1} → statement M
 write-spec =
