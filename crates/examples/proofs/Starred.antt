@@ -187,7 +187,7 @@ with-zero-refutes =
     answered 6 1 0 withZeroLines withZeroMultipliers
     (record {
       modulus = omega arith;
-      some = omega arith;
+      hasUnknowns = omega arith;
       unknowns = omega arith;
       whole = refl;
       equations = omega arith;

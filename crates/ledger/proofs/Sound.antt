@@ -47,7 +47,7 @@ sound-opening l ws none =
     record {
       modulus = modulus .0;
       largest = modulus .1;
-      some = unknowns .0;
+      hasUnknowns = unknowns .0;
       unknowns = unknowns .1;
       equations = omega arith;
       shaped = tt;
@@ -65,7 +65,7 @@ module _ (m n : ℕ) (es : List Equation) (a : Allowed m n es) where
       record {
         modulus = a .modulus;
         largest = a .largest;
-        some = a .some;
+        hasUnknowns = a .hasUnknowns;
         unknowns = a .unknowns;
         equations = omega (arith, under, length-append es (equationFrom n ws ∷ []));
         shaped =
@@ -80,7 +80,7 @@ module _ (m n : ℕ) (es : List Equation) (a : Allowed m n es) where
       record {
         modulus = a .modulus;
         largest = a .largest;
-        some = a .some;
+        hasUnknowns = a .hasUnknowns;
         unknowns = a .unknowns;
         equations = omega (arith, a .equations, length-take-le (length es - 1) es (omega arith));
         shaped = shaped-take n (length es - 1) es (a .shaped);

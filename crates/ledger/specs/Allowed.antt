@@ -16,7 +16,7 @@ Residues m (e ∷ es) = Below m (e .coefficients) × (e .right < m) × Residues 
 pub record Allowed (m n : ℕ) (es : List Equation) : Type 0 where
   pub modulus : 2 ≤ m
   pub largest : m ≤ largestModulus
-  pub some : 1 ≤ n
+  pub hasUnknowns : 1 ≤ n
   pub unknowns : n ≤ mostUnknowns
   pub equations : length es ≤ mostEquations
   pub shaped : Shaped n es

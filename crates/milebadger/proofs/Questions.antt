@@ -33,7 +33,7 @@ posed m n xs none =
     let whole = eqb→eq (length xs % (n + 1)) 0 (yes .1 .1 .0) in
     record {
       modulus = omega (arith, leb→le 2 m (modulus .0));
-      some = omega (arith, leb→le 1 n (unknowns .0));
+      hasUnknowns = omega (arith, leb→le 1 n (unknowns .0));
       unknowns = leb→le n 16 (unknowns .1);
       whole = whole;
       equations = lines-fit n (length xs) whole (leb→le (length xs / (n + 1)) 16 (yes .1 .1 .1 .0));

@@ -40,7 +40,7 @@ lines-posed m columns n values safe e =
     length-lines m columns n 0 (numbersOf values) ∙ ap (λ (z : ℕ). z * (n + 1)) count in
     record {
       modulus = safe .modulus;
-      some = omega (arith, safe .some);
+      hasUnknowns = omega (arith, safe .hasLocks);
       unknowns = omega (arith, safe .few);
       whole = ap (λ (z : ℕ). z % (n + 1)) long ∙ mul-mod-left n (n + 1);
       equations =

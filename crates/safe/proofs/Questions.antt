@@ -53,7 +53,7 @@ accepted m rows columns values none =
       lockable = record {
         modulus = omega arith;
         row = omega arith;
-        some = omega arith;
+        hasLocks = omega arith;
         few = omega arith;
         residues = all-below m (numbersOf values) .0 (yes .1 .1 .1 .0);
       };

@@ -98,7 +98,7 @@ module _ (calls : List Call) (m n : ℕ) (es : List Equation) (holds : ledger ca
   own-passes : (NothingSolves m n es → ⊥) → markedOf (opened m n es) (answerWords (opened m n es)) ≡ Pass
   own-passes solvable =
       ⊎-elim (λ h. absurd (solvable (no-start m n es .0 h)))
-      (λ found. own-mark m n es positive (omega (arith, allowed .largest)) (omega (arith, allowed .some))
+      (λ found. own-mark m n es positive (omega (arith, allowed .largest)) (omega (arith, allowed .hasUnknowns))
       (allowed .unknowns) (found .0) (found .1))
       (start-found m n es)
 

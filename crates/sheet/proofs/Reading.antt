@@ -33,7 +33,7 @@ use Rattle.sheet.specs.Record.{room, filled, linesIn, readable, ledgerOf
 pub record Fit (s : Sheet) : Type 0 where
   pub modulus : 2 ≤ s .modulus
   pub largest : s .modulus ≤ largestModulus
-  pub some : 1 ≤ s .unknowns
+  pub hasUnknowns : 1 ≤ s .unknowns
   pub unknowns : s .unknowns ≤ mostUnknowns
   pub equations : s .held ≤ mostEquations
   pub whole : length (s .cells) ≡ room
@@ -60,7 +60,7 @@ module _ (s : Sheet) where
       record {
         modulus = m .0;
         largest = m .1;
-        some = n .0;
+        hasUnknowns = n .0;
         unknowns = n .1;
         equations = leb→le (s .held) mostEquations (c .1);
         whole = eqb→eq (length (s .cells)) room (d .1);
@@ -75,7 +75,7 @@ module _ (s : Sheet) where
       (yes-and (allowedModulus (s .modulus) && allowedUnknowns (s .unknowns)) (leb (s .held) mostEquations)
       (yes-and (allowedModulus (s .modulus)) (allowedUnknowns (s .unknowns))
       (within-range 2 (s .modulus) largestModulus .1 (f .modulus, f .largest))
-      (within-range 1 (s .unknowns) mostUnknowns .1 (f .some, f .unknowns)))
+      (within-range 1 (s .unknowns) mostUnknowns .1 (f .hasUnknowns, f .unknowns)))
       (le→leb (s .held) mostEquations (f .equations)))
       (yes-eqb (f .whole)))
       (all-below (s .modulus) (linesIn s) .1 (f .residues)))
@@ -114,7 +114,7 @@ module _ (s : Sheet) where
       let f = readable-fit h in
       record {
         modulus = omega (arith, f .modulus);
-        some = omega (arith, f .some);
+        hasUnknowns = omega (arith, f .hasUnknowns);
         unknowns = f .unknowns;
         whole = ap (λ (k : ℕ). k % (s .unknowns + 1)) (length-lines f) ∙ mul-mod-left (s .held) (s .unknowns + 1);
         equations = omega (arith, length-lines f, mul-le-mul-right (s .unknowns + 1) (f .equations));

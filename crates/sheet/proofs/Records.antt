@@ -46,7 +46,7 @@ module _ (s : Sheet) (none : s .held ≡ 0) where
       record {
         modulus = m .0;
         largest = m .1;
-        some = n .0;
+        hasUnknowns = n .0;
         unknowns = n .1;
         equations = omega (arith, none);
         whole = whole;
@@ -113,7 +113,7 @@ module _ (s : Sheet) (f : Fit s) where
         record {
           modulus = f .modulus;
           largest = f .largest;
-          some = f .some;
+          hasUnknowns = f .hasUnknowns;
           unknowns = f .unknowns;
           equations = omega (arith, under);
           whole = added-whole;
@@ -147,7 +147,7 @@ module _ (s : Sheet) (f : Fit s) where
       record {
         modulus = f .modulus;
         largest = f .largest;
-        some = f .some;
+        hasUnknowns = f .hasUnknowns;
         unknowns = f .unknowns;
         equations = omega (arith, f .equations);
         whole = f .whole;

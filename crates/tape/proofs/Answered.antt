@@ -4,7 +4,6 @@
 use mathlib.Core.Path.{_≡_, refl, sym, ap, subst, _∙_}
 use mathlib.Core.Bool.{Bool, true, false, cond}
 use mathlib.Core.List.{List}
-use mathlib.Core.Option.{some}
 use Prim.Native.Nat.{ℕ, _≤_, _<_}
 use native.Mathlib.Omega.{arith}
 use lib.Dec.{eqb}
@@ -46,7 +45,7 @@ module _ (m n : ℕ) (es : List Equation) (pos : 0 < m) (shaped : Shaped n es) w
     block-is =
         record {
           unknowns = unknowns;
-          some = omega (arith, block-vectors m n es);
+          hasHead = omega (arith, block-vectors m n es);
           short = block-length m n es pos shaped equations unknowns;
           head = omega (arith, block-head m n es);
           vectors = block-vectors m n es;

@@ -1,6 +1,6 @@
 -- Decimal numbers and lines, as they are written byte by byte.
 --   decimal-some, -most   a number has a digit, and a 32-bit number at most 10
---   number-first, -next   its one digit written; its last one, behind those before it
+--   decimal-first, -next   its one digit written; its last one, behind those before it
 --   spaced-on, -end       one number more behind the spaced ones; all of them
 --   line-length           how many bytes a line has
 --   line-written          the byte that ends a line
@@ -39,12 +39,12 @@ decimal-within (suc k) x small =
 pub decimal-most : (x : ℕ) → x < 2 ^ 32 → length (decimal x) ≤ 10
 decimal-most x small = decimal-within 9 x (omega arith)
 
-pub number-first : (x d : ℕ) (old : List ℕ) → x < 10 → d ≡ 48 + x → 0 < length old → set old 0 d ≡ over (decimal x) old
-number-first x d old small is room = rw (decimal-small x small, is) (over-one [] old (48 + x) room)
+pub decimal-first : (x d : ℕ) (old : List ℕ) → x < 10 → d ≡ 48 + x → 0 < length old → set old 0 d ≡ over (decimal x) old
+decimal-first x d old small is room = rw (decimal-small x small, is) (over-one [] old (48 + x) room)
 
-pub number-next : (x d k : ℕ) (old : List ℕ) {new : List ℕ} → 10 ≤ x → d ≡ 48 + x % 10 → k ≡ length (decimal (x / 10))
+pub decimal-next : (x d k : ℕ) (old : List ℕ) {new : List ℕ} → 10 ≤ x → d ≡ 48 + x % 10 → k ≡ length (decimal (x / 10))
     → length (decimal x) ≤ length old → new ≡ over (decimal (x / 10)) old → set new k d ≡ over (decimal x) old
-number-next x d k old more is place room front =
+decimal-next x d k old more is place room front =
     rw (decimal-step x more, front, is, place)
     (over-one (decimal (x / 10)) old (48 + x % 10) (omega (arith, decimal-length x more)))
 

@@ -32,7 +32,7 @@ callRoom = 4096
 -- numbers that can be an answer block for n unknowns
 pub record Block (n : ℕ) (block : List ℕ) : Type 0 where
   pub unknowns : n ≤ 16
-  pub some : 0 < length block
+  pub hasHead : 0 < length block
   pub short : length block ≤ 273
   pub head : getD block 0 0 ≤ 17
   pub vectors : getD block 0 0 * n < length block

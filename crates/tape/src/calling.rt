@@ -6,7 +6,7 @@ ghost use Rattle.slices.specs.Over.{over};
 ghost use Rattle.tape.specs.Calls.{callFrom};
 ghost use Rattle.tape.specs.Reader.{callRoom, linesOn, toldOf, firstOn, stepOf};
 use crate::reading::call_length;
-use crate::reading::least;
+use crate::reading::smaller;
 use crate::reading::word;
 use crate::reading::words;
 use crate::telling::Told;
@@ -52,7 +52,7 @@ pub fn next(sheet: Sheet, rest: &[u8], out: &mut [u8]) -> Step
 {
     let first = word(rest);
     let wanted = call_length(first, sheet.unknowns());
-    let count = least(wanted, rest.len() / 4);
+    let count = smaller(wanted, rest.len() / 4);
     let mut taken = [0u32; 273];
     words(rest, count, &mut taken);
     let told = call(sheet, first, &taken[..count], out);

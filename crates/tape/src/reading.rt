@@ -57,7 +57,7 @@ pub(crate) fn call_length(first: u32, n: usize) -> usize
     }
 }
 
-pub(crate) fn least(a: usize, b: usize) -> usize
+pub(crate) fn smaller(a: usize, b: usize) -> usize
     ensures { λ r. ⌜ r ≡ min a b ⌝ }
 {
     if a < b {

@@ -19,8 +19,8 @@ fn digit(x: u32) -> u8
     (48 + x) as u8
 }
 
-// The number without its last digit, and that digit behind it; how many digits there are.
-fn number(x: u32, out: &mut [u8]) -> usize
+// A number in decimal: the number without its last digit, and that digit behind it; how many digits there are.
+fn decimal_into(x: u32, out: &mut [u8]) -> usize
     requires { ⌜ length (decimal x) ≤ length (now out) ⌝ }
     ensures { λ r. ⌜ r ≡ length (decimal x) ⌝ }
     ensures { λ _. ⌜ now (out .exit) ≡ over (decimal x) (now (out .entry)) ⌝ }
@@ -29,7 +29,7 @@ fn number(x: u32, out: &mut [u8]) -> usize
         out[0] = digit(x);
         return 1;
     }
-    let at = number(x / 10, out);
+    let at = decimal_into(x / 10, out);
     out[at] = digit(x % 10);
     at + 1
 }
@@ -41,7 +41,7 @@ fn spaced_number(x: u32, out: &mut [u8]) -> usize
     ensures { λ _. ⌜ now (out .exit) ≡ over (32 ∷ decimal x) (now (out .entry)) ⌝ }
 {
     out[0] = SPACE;
-    let digits = number(x, &mut out[1..]);
+    let digits = decimal_into(x, &mut out[1..]);
     digits + 1
 }
 

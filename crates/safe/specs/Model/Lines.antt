@@ -37,6 +37,6 @@ Found n (some turns) head numbers = (0 < head) × (take n numbers ≡ turns)
 pub record Lockable (m columns : ℕ) (values : List ℕ) : Type 0 where
   pub modulus : 1 < m
   pub row : 0 < columns
-  pub some : 0 < length values
+  pub hasLocks : 0 < length values
   pub few : length values ≤ 16
   pub residues : Below m (numbersOf values)

@@ -69,7 +69,7 @@ reaches-requires c κs =
     let b = c .before .before .build in
     let z = c .before .before .before .before .before .before .before in (
       omega (arith, z .pre .0 .modulus),
-      z .pre .0 .some,
+      z .pre .0 .hasUnknowns,
       z .pre .0 .unknowns,
       front-size (n + 1) (size .result) (omega arith) (size .ensures) (b .last .0) (b .kept .0),
       z .pre .1,

@@ -43,7 +43,7 @@ returns c =
     let z = c .before .before .before .before .before .before .before .before .before .before in
     let block = z .args .block .now in
     let line = c .before .before .line in
-    let is = block-none (z .args .n) block (z .pre .0 .some) (omega arith) in
+    let is = block-none (z .args .n) block (z .pre .0 .hasHead) (omega arith) in
     let part = lent-is 1 block in (
       line .ensures .0 .0 ∙ ap (λ (ks : List ℕ). length (lineOf (bytesOf "none") ks)) part ∙ sym (ap length is),
       line .ensures .1 ∙ ap (λ (ks : List ℕ). over (lineOf (bytesOf "none") ks) (z .args .out .now)) part
@@ -137,9 +137,9 @@ returns-2 c =
     let line = c .before .before .before .before .before .before .before .line2 in
     let steps = c .before .before .step-lines in
     let head : getD (z .args .block .now) 0 0 ≡ 0 → ⊥ = λ e. omega arith in (
-      block-length (z .args .n) (z .args .block .now) (z .args .out .now) (z .pre .0 .some) head (line .ensures .0 .0)
+      block-length (z .args .n) (z .args .block .now) (z .args .out .now) (z .pre .0 .hasHead) head (line .ensures .0 .0)
           (steps .ensures .0 .0),
-      block-written (z .args .n) (z .args .block .now) (z .args .out .now) (z .pre .0 .some) head (line .result)
+      block-written (z .args .n) (z .args .block .now) (z .args .out .now) (z .pre .0 .hasHead) head (line .result)
           (line .ensures .0 .0) (line .ensures .1) (steps .ensures .1),
     )
 

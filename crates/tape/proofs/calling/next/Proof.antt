@@ -21,8 +21,8 @@ unknowns-requires c κs = search needs
 call-length-requires : tie.Need-call-length-requires
 call-length-requires c κs = search needs
 
-least-requires : tie.Need-least-requires
-least-requires c κs = search needs
+smaller-requires : tie.Need-smaller-requires
+smaller-requires c κs = search needs
 
 slice-aggregate-words : tie.Need-slice-aggregate-words
 slice-aggregate-words c = search needs
@@ -36,7 +36,7 @@ array-share-prefix-taken c = search needs
 slice-aggregate-call : tie.Need-slice-aggregate-call
 slice-aggregate-call c =
     let z = c .before .before .before .before .before .before .before .before .before .before in
-    sym (length-take-le (c .before .before .before .before .least .result) (c .before .before .words .last .1 .1 .0) (search needs))
+    sym (length-take-le (c .before .before .before .before .smaller .result) (c .before .before .words .last .1 .1 .0) (search needs))
 
 call-requires : tie.Need-call-requires
 call-requires c κs = search needs
@@ -54,7 +54,7 @@ returns c =
     let l = ledgerOf (z .args .sheet) in
     let first = c .before .before .before .before .before .before .before .before .before .before .before .before .word in
     let length = c .before .before .before .before .before .before .before .before .before .before .call-length in
-    let count = c .before .before .before .before .before .before .before .before .before .least in
+    let count = c .before .before .before .before .before .before .before .before .before .smaller in
     let words = c .before .before .before .before .before .before .before .words in
     let told = c .before .before .before .call in
     let unknowns = c .before .before .before .before .before .before .before .before .before .before .before .unknowns in
@@ -73,7 +73,7 @@ next-spec =
     word-requires
     unknowns-requires
     call-length-requires
-    least-requires
+    smaller-requires
     slice-aggregate-words
     words-requires
     array-share-prefix-taken

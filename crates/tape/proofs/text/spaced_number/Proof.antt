@@ -1,4 +1,4 @@
--- `text::spaced_number` meets its contract: `number` writes into the part behind the space.
+-- `text::spaced_number` meets its contract: `decimal_into` writes into the part behind the space.
 use mathlib.Core.Path.{_∙_}
 use native.Mathlib.Omega.{arith}
 use lib.ListN.{set, length-set}
@@ -13,24 +13,24 @@ use Rattle.tape.proofs.text.spaced_number.Tie as tie
 slice-write-out : tie.Need-slice-write-out
 slice-write-out c = search needs
 
-sub-number : tie.Need-sub-number
-sub-number c = simp length-set (omega arith)
+sub-decimal-into : tie.Need-sub-decimal-into
+sub-decimal-into c = simp length-set (omega arith)
 
-part-number-start : tie.Need-part-number-start
-part-number-start c = simp length-set (omega arith)
+part-decimal-into-start : tie.Need-part-decimal-into-start
+part-decimal-into-start c = simp length-set (omega arith)
 
-part-number-end : tie.Need-part-number-end
-part-number-end c = search needs
+part-decimal-into-end : tie.Need-part-decimal-into-end
+part-decimal-into-end c = search needs
 
-number-requires : tie.Need-number-requires
-number-requires c κs =
+decimal-into-requires : tie.Need-decimal-into-requires
+decimal-into-requires c κs =
     let a = c .before .before .args in
     omega (arith, lent-length 1 (set (a .out .now) 0 32), length-set (a .out .now) 0 32, decimal-most (a .x) (omega arith))
 
 add-result : tie.Need-add-result
 add-result c =
     let x = c .before .before .before .before .before .args .x in
-    omega (arith, c .before .before .number .ensures .0, decimal-most x (omega arith))
+    omega (arith, c .before .before .decimal-into .ensures .0, decimal-most x (omega arith))
 
 same-length : tie.Need-same-length
 same-length c = c .before .out .given .1 ∙ simp length-set
@@ -38,10 +38,10 @@ same-length c = c .before .out .given .1 ∙ simp length-set
 returns : tie.Need-returns
 returns c =
     let a = c .before .before .before .before .before .args in
-    let number = c .before .before .number in
+    let digits = c .before .before .decimal-into in
     let few = decimal-most (a .x) (omega arith) in (
-      (omega (arith, number .ensures .0), omega (arith, number .ensures .0)),
-      head-then 32 (decimal (a .x)) (a .out .now) (omega arith) (number .ensures .1),
+      (omega (arith, digits .ensures .0), omega (arith, digits .ensures .0)),
+      head-then 32 (decimal (a .x)) (a .out .now) (omega arith) (digits .ensures .1),
     )
 
 pub spaced-number-spec : {M : Type 1} → statement M
@@ -49,10 +49,10 @@ spaced-number-spec =
     tie.close
     (tie.spec
     slice-write-out
-    sub-number
-    part-number-start
-    part-number-end
-    number-requires
+    sub-decimal-into
+    part-decimal-into-start
+    part-decimal-into-end
+    decimal-into-requires
     add-result
     same-length
     returns)
