@@ -1,10 +1,12 @@
 -- `calling::next` meets its contract: the words that the first one's kind wants, or all that are left, are the call's.
 use mathlib.Core.Path.{sym}
+use native.Mathlib.Omega.{arith}
 use denote.Ref.{now}
 use lib.ListN.{length, replicate}
 use lib.Seq.{length-take-le}
 use Rattle.slices.proofs.Over.{over-front}
 use Rattle.sheet.specs.Record.{ledgerOf}
+use Rattle.sheet.proofs.Few.{unknowns-few}
 use Rattle.tape.specs.Bytes.{wordsWithin}
 use Rattle.tape.proofs.Bytes.{within-length}
 use Rattle.tape.proofs.Picked.{next-call, next-used, stepped}
@@ -19,7 +21,7 @@ unknowns-requires : tie.Need-unknowns-requires
 unknowns-requires c κs = search needs
 
 call-length-requires : tie.Need-call-length-requires
-call-length-requires c κs = search needs
+call-length-requires c κs = omega (arith, unknowns-few (c .before .before .before .before .args .sheet))
 
 smaller-requires : tie.Need-smaller-requires
 smaller-requires c κs = search needs
@@ -58,7 +60,7 @@ returns c =
     let words = c .before .before .before .before .before .before .before .words in
     let told = c .before .before .before .call in
     let unknowns = c .before .before .before .before .before .before .before .before .before .before .before .unknowns in
-    let wants = length .ensures .1 l (sym (unknowns .ensures .0)) in
+    let wants = length .ensures .1 l (sym (unknowns .ensures)) in
     let front = over-front (count .result) (wordsWithin (count .result) rest) (replicate 273 0) (words .ensures)
     (within-length (count .result) rest) in
     stepped (z .args .sheet) rest (z .args .out .now)

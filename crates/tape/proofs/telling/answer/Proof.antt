@@ -23,7 +23,7 @@ array-share-prefix-words c =
     let z = c .before .before .before .before .before .before .before in
     let answer = c .before .before .before .answer-from-tape in
     let said = c .before .answered .given .1 in
-    let unknowns = c .before .before .before .before .before .unknowns .ensures .0 in
+    let unknowns = c .before .before .before .before .before .unknowns .ensures in
     let given = wrote (z .args .sheet) (z .args .word) (answer .ensures .0) (replicate 273 0) said unknowns (answer .ensures .1) in
     omega (arith, given .count, length-take (c .before .answered .given .0 .0) (answer .last .1 .1 .0))
 
@@ -32,7 +32,7 @@ slice-aggregate-answer-lines c =
     let z = c .before .before .before .before .before .before .before .before in
     let answer = c .before .before .before .before .answer-from-tape in
     let said = c .before .before .answered .given .1 in
-    let unknowns = c .before .before .before .before .before .before .unknowns .ensures .0 in
+    let unknowns = c .before .before .before .before .before .before .unknowns .ensures in
     let given = wrote (z .args .sheet) (z .args .word) (answer .ensures .0) (replicate 273 0) said unknowns (answer .ensures .1) in
     given .count
 
@@ -41,7 +41,7 @@ answer-lines-requires c κs =
     let z = c .before .before .before .before .before .before .before .before .before in
     let answer = c .before .before .before .before .before .answer-from-tape in
     let said = c .before .before .before .answered .given .1 in
-    let unknowns = c .before .before .before .before .before .before .before .unknowns .ensures .0 in
+    let unknowns = c .before .before .before .before .before .before .before .unknowns .ensures in
     let given = wrote (z .args .sheet) (z .args .word) (answer .ensures .0) (replicate 273 0) said unknowns (answer .ensures .1) in
     (given .block, z .pre)
 
@@ -59,7 +59,7 @@ returns c =
     let z = c .before .before .before .before .before .before .before .before .before .before .before .before in
     let answer = c .before .before .before .before .before .before .before .before .answer-from-tape in
     let said = c .before .before .before .before .before .before .answered .given .1 in
-    let unknowns = c .before .before .before .before .before .before .before .before .before .before .unknowns .ensures .0 in
+    let unknowns = c .before .before .before .before .before .before .before .before .before .before .unknowns .ensures in
     let given = wrote (z .args .sheet) (z .args .word) (answer .ensures .0) (replicate 273 0) said unknowns (answer .ensures .1) in
     let lines = c .before .before .answer-lines in
     told (z .args .sheet) (answersFromTape (z .args .word)) (z .args .out .now) refl (given .lines) (lines .ensures .0)
