@@ -3,7 +3,9 @@
 use mathlib.Core.List.{List, [], _∷_}
 use Prim.Native.Nat.{ℕ, _*_, _≤_, _<_}
 use lib.ListN.{length, take, getD}
-use Rattle.ledger.specs.Ledger.{Ledger}
+use Rattle.ledger.specs.Ledger.{Ledger, mostUnknowns}
+use Rattle.ledger.specs.Shapes.{largestHead}
+use Rattle.ledger.specs.Block.{longestBlock}
 use Rattle.ledger.specs.Calls.{Call}
 use Rattle.sheet.specs.declared.Sheet.{Sheet}
 use Rattle.sheet.specs.declared.Entered.{Entered}
@@ -31,10 +33,10 @@ callRoom = 4096
 
 -- numbers that can be an answer block for n unknowns
 pub record Block (n : ℕ) (block : List ℕ) : Type 0 where
-  pub unknowns : n ≤ 16
+  pub unknowns : n ≤ mostUnknowns
   pub hasHead : 0 < length block
-  pub short : length block ≤ 273
-  pub head : getD block 0 0 ≤ 17
+  pub short : length block ≤ longestBlock
+  pub head : getD block 0 0 ≤ largestHead
   pub vectors : getD block 0 0 * n < length block
 
 -- the line of what an add or a strike says

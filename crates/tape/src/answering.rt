@@ -5,6 +5,7 @@ ghost use lib.ListN.{length};
 ghost use Rattle.slices.specs.Over.{over};
 ghost use Rattle.words.specs.Words.{numbersOf};
 ghost use Rattle.system.specs.Claims.{vectorsWithin};
+ghost use Rattle.ledger.specs.Ledger.{mostUnknowns};
 ghost use Rattle.tape.specs.Lines.{stepLines, blockLines};
 ghost use Rattle.tape.specs.Reader.{lineRoom, callRoom, Block};
 use crate::text::line;
@@ -12,7 +13,8 @@ use words::reading::numbers;
 
 // A line for each of `count` steps of n entries.
 fn step_lines(vectors: &[u32], count: usize, n: usize, out: &mut [u8]) -> usize
-    requires { ⌜ (n ≤ 16) × (count ≤ 16) × (count * n ≤ length (now vectors)) × (lineRoom * count ≤ length (now out)) ⌝ }
+    requires { ⌜ (n ≤ mostUnknowns) × (count ≤ mostUnknowns)
+        × (count * n ≤ length (now vectors)) × (lineRoom * count ≤ length (now out)) ⌝ }
     ensures { λ r. ⌜ (r ≡ length (stepLines (vectorsWithin count n (now (vectors .entry))))) × (r ≤ lineRoom * count) ⌝ }
     ensures { λ _. ⌜ now (out .exit) ≡ over (stepLines (vectorsWithin count n (now (vectors .entry)))) (now (out .entry)) ⌝ }
 {

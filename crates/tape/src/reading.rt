@@ -3,7 +3,8 @@ ghost use mathlib.Core.Path.{_≡_};
 ghost use Prim.Native.Nat.{_*_, _<_, _≤_, min};
 ghost use lib.ListN.{length};
 ghost use Rattle.slices.specs.Over.{over};
-ghost use Rattle.ledger.specs.Ledger.{Ledger, unknownsOf};
+ghost use Rattle.ledger.specs.Ledger.{Ledger, unknownsOf, mostUnknowns};
+ghost use Rattle.ledger.specs.Block.{longestBlock};
 ghost use Rattle.tape.specs.Bytes.{wordAt, wordsWithin};
 ghost use Rattle.tape.specs.Calls.{wanted};
 use words::reading::kind;
@@ -38,8 +39,8 @@ pub(crate) fn words(bytes: &[u8], count: usize, out: &mut [u32])
 
 // How many words the call takes that a first word picks, where the sheet has n unknowns; 0 stands for an unopened sheet.
 pub(crate) fn call_length(first: u32, n: usize) -> usize
-    requires { ⌜ n ≤ 16 ⌝ }
-    ensures { λ r. ⌜ r ≤ 273 ⌝ }
+    requires { ⌜ n ≤ mostUnknowns ⌝ }
+    ensures { λ r. ⌜ r ≤ longestBlock ⌝ }
     ensures { λ r. ⌜ ((l : Ledger) → unknownsOf l ≡ n → r ≡ wanted l first) ⌝ }
 {
     let k = kind(first);
