@@ -40,6 +40,7 @@ fn call(sheet: Sheet, first: u32, taken: &[u32], out: &mut [u8]) -> Told
         8 => strike(sheet, first, out),
         9 => answer(sheet, first, out),
         0 | 2 | 4 | 6..=7 | 10..=15 => meaningless(sheet, first, out),
+        // no word has a kind above 15; a match on a number has an arm for every number of its type
         _ => meaningless(sheet, first, out),
     }
 }
