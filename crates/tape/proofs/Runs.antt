@@ -1,34 +1,25 @@
 -- A run over a tape, a step of the reader at a time.
---   step-bytes      a step takes a word at least, and no more than there is
---   step-written    its lines are as many bytes as it says, and lie at the front of what was written
---   step-fits       so they fit
---   step-counts     and are taken off what remains
---   Written         the lines of the calls so far are at the front of a buffer
---   written-none    before the first call
---   written-room    what remains has room behind them
---   written-more    the lines of one call more
---   written-all     and the line of the bytes left over
-use mathlib.Core.Path.{_≡_, refl, sym, ap, ap₂, _∙_}
-use mathlib.Core.List.{List, [], _++_, append-assoc}
-use Prim.Native.Nat.{ℕ, _+_, _%_, _≤_, _<_}
+--   step-bytes                    a step takes a word at least, and no more than there is
+--   step-written                  its lines are as many bytes as it says, and lie at the front of what was written
+--   step-fits                     so they fit
+--   step-remaining, step-counts   and are taken off what remains
+--   none-over, some-over          the line of the bytes left over, if there are any
+use mathlib.Core.Path.{_≡_, sym, ap, ap₂, _∙_}
+use mathlib.Core.List.{List, _++_}
+use Prim.Native.Nat.{ℕ, _+_, _%_, _≤_}
 use native.Mathlib.Omega.{arith}
 use borrow.Author.Tests.{ne-eqb}
-use lib.ListN.{length, take, drop, length-append}
+use lib.ListN.{length, drop, length-append}
 use Rattle.slices.specs.Over.{over}
-use Rattle.slices.proofs.Parts.{lent, putBack, lent-is}
-use Rattle.slices.proofs.Over.{over-fits, over-front, over-behind}
+use Rattle.slices.proofs.Parts.{lent, lent-is}
+use Rattle.slices.proofs.Over.{over-fits}
 use Rattle.sheet.specs.declared.Sheet.{Sheet}
-use Rattle.sheet.specs.Record.{fresh, ledgerOf}
+use Rattle.sheet.specs.Record.{ledgerOf}
 use Rattle.sheet.specs.History.{left}
 use Rattle.tape.specs.declared.calling.Step.{Step}
-use Rattle.tape.specs.Lines.{refusedLine, leftOverLine, mostBytes, lines}
+use Rattle.tape.specs.Lines.{refusedLine, leftOverLine}
 use Rattle.tape.specs.Reader.{linesOn, firstOn, stepOf}
-use Rattle.tape.proofs.Remaining.{remaining, lines-remaining, usedBy, used-some, used-fits, remaining-step, remaining-end}
-
--- a front that was copied from another buffer
-pub copied : (k : ℕ) (xs old before : List ℕ) {told part : List ℕ} → told ≡ over xs before → k ≡ length xs
-    → part ≡ over (take k told) old → part ≡ over xs old
-copied k xs old before front count copy = copy ∙ ap (λ (z : List ℕ). over z old) (over-front k xs before front (sym count))
+use Rattle.tape.proofs.Remaining.{remaining, usedBy, used-some, used-fits, remaining-step}
 
 module _ (s : Sheet) (rest : List ℕ) {step : Step} (whole : 4 ≤ length rest) (is : step ≡ stepOf s rest) where
   used-is : step .used ≡ usedBy (ledgerOf s) rest
@@ -65,45 +56,6 @@ module _ (s : Sheet) (rest : List ℕ) {step : Step} (whole : 4 ≤ length rest)
   pub step-counts : step .written + length behind ≡ length (remaining (ledgerOf s) rest)
   step-counts =
       omega (arith, step-written, ap length step-remaining, length-append (linesOn s (firstOn s rest)) behind)
-
--- ---- what is written so far
-
-pub record Written (tape old new : List ℕ) (s : Sheet) (rest : List ℕ) (k : ℕ) : Type 0 where
-  pub done : List ℕ
-  pub whole : lines tape ≡ done ++ remaining (ledgerOf s) rest
-  pub count : k ≡ length done
-  pub front : new ≡ over done old
-
-pub written-none : (tape old : List ℕ) {s : Sheet} → length tape ≤ mostBytes → s ≡ fresh → Written tape old old s tape 0
-written-none tape old fits same =
-    record {
-      done = [];
-      whole = lines-remaining tape fits ∙ ap (λ (t : Sheet). remaining (ledgerOf t) tape) (sym same);
-      count = refl;
-      front = refl;
-    }
-
-module _ (tape old new : List ℕ) (s : Sheet) (rest : List ℕ) (k : ℕ) (w : Written tape old new s rest k) where
-  pub written-room : k + length (remaining (ledgerOf s) rest) ≡ length (lines tape)
-  written-room = omega (arith, w .count, ap length (w .whole), length-append (w .done) (remaining (ledgerOf s) rest))
-
-  pub written-more : {step : Step} {part : List ℕ} → 4 ≤ length rest → step ≡ stepOf s rest
-      → part ≡ over (linesOn s (firstOn s rest)) (lent k new)
-      → Written tape old (putBack k new part) (step .sheet) (lent (step .used) rest) (k + step .written)
-  written-more {step} {part} whole is copy =
-      let piece = linesOn s (firstOn s rest) in
-      record {
-        done = w .done ++ piece;
-        whole = w .whole ∙ ap (λ (z : List ℕ). w .done ++ z) (step-remaining s rest whole is) ∙ sym (append-assoc (w .done) piece _);
-        count = omega (arith, w .count, step-written s rest whole is, length-append (w .done) piece);
-        front = over-behind k (w .done) piece old (sym (w .count)) (w .front) copy;
-      }
-
-  pub written-all : {part : List ℕ} → length rest < 4 → part ≡ over (leftOverLine rest) (lent k new)
-      → putBack k new part ≡ over (lines tape) old
-  written-all short copy =
-      over-behind k (w .done) (leftOverLine rest) old (sym (w .count)) (w .front) copy
-      ∙ ap (λ (z : List ℕ). over z old) (sym (w .whole ∙ ap (λ (z : List ℕ). w .done ++ z) (remaining-end (ledgerOf s) rest short)))
 
 -- ---- the bytes left over
 

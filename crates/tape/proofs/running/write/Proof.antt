@@ -1,17 +1,26 @@
 -- `running::write` meets its contract. The invariant: the lines of the calls so far are at the front of out, in `at` bytes. The
 -- measure is the length of the rest.
-use mathlib.Core.Path.{_≡_, sym, ap}
+use mathlib.Core.Path.{_≡_, sym}
 use native.Mathlib.Omega.{arith}
-use lib.ListN.{length, length-take}
+use lib.ListN.{length}
 use lib.Seq.{length-take-le}
 use borrow.Author.Needs.{needs}
 use Rattle.slices.proofs.Parts.{lent, lent-length}
 use Rattle.slices.proofs.Over.{over-fits}
-use Rattle.sheet.specs.Record.{ledgerOf}
 use Rattle.tape.specs.Lines.{leftOverLine}
 use Rattle.tape.specs.Reader.{linesOn, firstOn}
-use Rattle.tape.proofs.Remaining.{remaining-end}
-use Rattle.tape.proofs.Runs.{copied, step-bytes, step-written, step-fits, step-counts, Written, written-none, written-room, written-more, written-all}
+use Rattle.tape.proofs.Runs.{step-bytes, step-written, step-fits}
+use Rattle.tape.proofs.Written.{
+  copied,
+  Written,
+  written-none,
+  written-more,
+  written-all,
+  room-behind,
+  room-step,
+  room-last,
+  taken-fits,
+}
 use Rattle.tape.proofs.running.write.Statement.{statement}
 use Rattle.tape.proofs.running.write.Tie as tie
 
@@ -65,16 +74,12 @@ slice-aggregate-copy-bytes c =
 sub-copy-bytes : tie.Need-sub-copy-bytes Inv-loop μ-loop
 sub-copy-bytes c =
     let l = c .before .before .before .before .before .before .before .loop in
-    let z = c .before .before .before .before .before .before .before .before .before .before .before in
-    let room = written-room (z .args .tape .now) (z .args .out .now) (l .out) (l .sheet) (l .rest .now) (l .at) (l .inv .2) in
-    omega (arith, z .pre .1, l .inv .1)
+    room-behind (l .inv .2) (c .before .before .before .before .before .before .before .before .before .before .before .pre .1) (l .inv .1)
 
 part-copy-bytes-start : tie.Need-part-copy-bytes-start Inv-loop μ-loop
 part-copy-bytes-start c =
     let l = c .before .before .before .before .before .before .before .loop in
-    let z = c .before .before .before .before .before .before .before .before .before .before .before in
-    let room = written-room (z .args .tape .now) (z .args .out .now) (l .out) (l .sheet) (l .rest .now) (l .at) (l .inv .2) in
-    omega (arith, z .pre .1, l .inv .1)
+    room-behind (l .inv .2) (c .before .before .before .before .before .before .before .before .before .before .before .pre .1) (l .inv .1)
 
 part-copy-bytes-end : tie.Need-part-copy-bytes-end Inv-loop μ-loop
 part-copy-bytes-end c = search needs
@@ -82,19 +87,15 @@ part-copy-bytes-end c = search needs
 copy-bytes-requires : tie.Need-copy-bytes-requires Inv-loop μ-loop
 copy-bytes-requires c κs =
     let l = c .before .before .before .before .before .before .before .before .loop in
-    let z = c .before .before .before .before .before .before .before .before .before .before .before .before in
-    let room = written-room (z .args .tape .now) (z .args .out .now) (l .out) (l .sheet) (l .rest .now) (l .at) (l .inv .2) in
     let step = c .before .before .before .before .before .next in
-    let counts = step-counts (l .sheet) (l .rest .now) (omega arith) (step .ensures .0) in
-    omega (arith, z .pre .1, l .inv .1, length-take (step .result .written) (step .last .1 .1 .0), lent-length (l .at) (l .out))
+    taken-fits (l .at) (step .result .written) (step .last .1 .1 .0) (l .out)
+    (room-step (l .inv .2) (c .before .before .before .before .before .before .before .before .before .before .before .before .pre .1) (l .inv .1) (omega arith) (step .ensures .0))
 
 add-at : tie.Need-add-at Inv-loop μ-loop
 add-at c =
     let l = c .before .before .before .before .before .before .before .before .before .before .before .loop in
     let z = c .before .before .before .before .before .before .before .before .before .before .before .before .before .before .before in
-    let room = written-room (z .args .tape .now) (z .args .out .now) (l .out) (l .sheet) (l .rest .now) (l .at) (l .inv .2) in
-    let step = c .before .before .before .before .before .before .before .before .next in
-    let counts = step-counts (l .sheet) (l .rest .now) (omega arith) (step .ensures .0) in
+    let fits = room-step (l .inv .2) (z .pre .1) (l .inv .1) (omega arith) (c .before .before .before .before .before .before .before .before .next .ensures .0) in
     omega (arith, z .pre .1, l .inv .1)
 
 loop-less : tie.Need-loop-less Inv-loop μ-loop
@@ -107,13 +108,12 @@ loop-less c =
 loop-again : tie.Need-loop-again Inv-loop μ-loop
 loop-again c =
     let l = c .before .before .before .before .before .before .before .before .before .before .before .loop in
-    let a = c .before .before .before .before .before .before .before .before .before .before .before .before .before .before .before .args in
     let step = c .before .before .before .before .before .before .before .before .next in
     let rest = l .rest .now in
     let size : length (step .last .1 .1 .0) ≡ 4096 = search needs in (
       size,
       search needs,
-      written-more (a .tape .now) (a .out .now) (l .out) (l .sheet) rest (l .at) (l .inv .2) (omega arith) (step .ensures .0)
+      written-more (l .inv .2) (omega arith) (step .ensures .0)
           (copied (step .result .written) (linesOn (l .sheet) (firstOn (l .sheet) rest)) (lent (l .at) (l .out)) (l .told)
           (step .ensures .1) (step-written (l .sheet) rest (omega arith) (step .ensures .0)) (c .before .before .copy-bytes .ensures)),
     )
@@ -140,16 +140,12 @@ slice-aggregate-copy-bytes-2 c =
 sub-copy-bytes-2 : tie.Need-sub-copy-bytes-2 Inv-loop μ-loop
 sub-copy-bytes-2 c =
     let l = c .before .before .before .before .before .loop in
-    let z = c .before .before .before .before .before .before .before .before .before in
-    let room = written-room (z .args .tape .now) (z .args .out .now) (l .out) (l .sheet) (l .rest .now) (l .at) (l .inv .2) in
-    omega (arith, z .pre .1, l .inv .1)
+    room-behind (l .inv .2) (c .before .before .before .before .before .before .before .before .before .pre .1) (l .inv .1)
 
 part-copy-bytes-start-2 : tie.Need-part-copy-bytes-start-2 Inv-loop μ-loop
 part-copy-bytes-start-2 c =
     let l = c .before .before .before .before .before .loop in
-    let z = c .before .before .before .before .before .before .before .before .before in
-    let room = written-room (z .args .tape .now) (z .args .out .now) (l .out) (l .sheet) (l .rest .now) (l .at) (l .inv .2) in
-    omega (arith, z .pre .1, l .inv .1)
+    room-behind (l .inv .2) (c .before .before .before .before .before .before .before .before .before .pre .1) (l .inv .1)
 
 part-copy-bytes-end-2 : tie.Need-part-copy-bytes-end-2 Inv-loop μ-loop
 part-copy-bytes-end-2 c = search needs
@@ -157,11 +153,9 @@ part-copy-bytes-end-2 c = search needs
 copy-bytes-requires-2 : tie.Need-copy-bytes-requires-2 Inv-loop μ-loop
 copy-bytes-requires-2 c κs =
     let l = c .before .before .before .before .before .before .loop in
-    let z = c .before .before .before .before .before .before .before .before .before .before in
-    let room = written-room (z .args .tape .now) (z .args .out .now) (l .out) (l .sheet) (l .rest .now) (l .at) (l .inv .2) in
-    let none = ap length (remaining-end (ledgerOf (l .sheet)) (l .rest .now) (omega arith)) in
     let last = c .before .before .before .left-over in
-    omega (arith, z .pre .1, l .inv .1, last .ensures .0, length-take (last .result) (last .last .1 .0), lent-length (l .at) (l .out))
+    let fits = room-last (l .inv .2) (c .before .before .before .before .before .before .before .before .before .before .pre .1) (l .inv .1) (omega arith) in
+    taken-fits (l .at) (last .result) (last .last .1 .0) (l .out) (omega (arith, last .ensures .0))
 
 same-length : tie.Need-same-length Inv-loop μ-loop
 same-length c = search needs
@@ -169,11 +163,9 @@ same-length c = search needs
 returns : tie.Need-returns Inv-loop μ-loop
 returns c =
     let l = c .before .before .before .before .before .before .before .before .before .loop in
-    let a = c .before .before .before .before .before .before .before .before .before .before .before .before .before .args in
     let last = c .before .before .before .before .before .before .left-over in
-    let rest = l .rest .now in
-    written-all (a .tape .now) (a .out .now) (l .out) (l .sheet) rest (l .at) (l .inv .2) (omega arith)
-    (copied (last .result) (leftOverLine rest) (lent (l .at) (l .out)) (l .told) (last .ensures .1) (last .ensures .0)
+    written-all (l .inv .2) (omega arith)
+    (copied (last .result) (leftOverLine (l .rest .now)) (lent (l .at) (l .out)) (l .told) (last .ensures .1) (last .ensures .0)
     (c .before .before .copy-bytes2 .ensures))
 
 pub write-spec : {M : Type 1} → statement M
