@@ -1,4 +1,5 @@
-// One call of a script. Where its outcome or its buffer has no room, the state stays as it is.
+// One call of a script, by the table of operations in `lib.rt`. Where its outcome or its buffer has no room, the state stays as
+// it is.
 use crate::telling::State;
 use crate::telling::Told;
 use crate::telling::narrow;
@@ -10,9 +11,18 @@ use sheet::answering::Answered;
 use sheet::marking::Marked;
 use slices::copying::copy;
 
+// The words of an outcome.
+const OUTCOME: usize = 2;
+
+// The buffer of an answer from tape: the longest block fits it, a head and 17 vectors of 16 entries.
+const BUFFER: usize = 273;
+
+// 0xC0DEC0DE, in every word of that buffer before the answer.
+const FILL: u32 = 3235823838;
+
 struct Filled {
     answered: Answered,
-    buffer: [u32; 273],
+    buffer: [u32; BUFFER],
 }
 
 pub(crate) fn act(state: State, operation: u32, words: &[u32], out: &mut [u32]) -> State {
@@ -102,13 +112,13 @@ fn answer(state: State, words: &[u32], out: &mut [u32]) -> State {
         return state;
     }
     let room = out.len() - at;
-    if room < 2 {
+    if room < OUTCOME {
         return state;
     }
-    if room - 2 < length {
+    if room - OUTCOME < length {
         return state;
     }
-    let block = at + 2;
+    let block = at + OUTCOME;
     let end = block + length;
     copy(words, &mut out[block..end]);
     let answered = sheet.answer(&mut out[block..end]);
@@ -121,20 +131,19 @@ fn answer_from_tape(state: State, words: &[u32], out: &mut [u32]) -> State {
     if out.len() < at {
         return state;
     }
-    if out.len() - at < 275 {
+    if out.len() - at < OUTCOME + BUFFER {
         return state;
     }
-    let block = at + 2;
+    let block = at + OUTCOME;
     let filled = fill(sheet, first(words));
     let answered = filled.answered;
     let buffer = filled.buffer;
     copy(&buffer, &mut out[block..]);
-    tell_answer(state, answered, block, 273, out)
+    tell_answer(state, answered, block, BUFFER, out)
 }
 
-// Every block fits the buffer of an answer from tape; it is 0xC0DEC0DE everywhere before.
 fn fill(sheet: Sheet, word: u32) -> Filled {
-    let mut buffer = [3235823838u32; 273];
+    let mut buffer = [FILL; BUFFER];
     let answered = sheet.answer_from_tape(word, &mut buffer);
     Filled {
         answered: answered,

@@ -2,7 +2,17 @@
 // sheet. It is proved that this is safe and ends, and nothing more: what the calls do, their own contracts say.
 //
 // The script has for each call an operation, a number of words, and these words. Each call writes its outcome, two words; behind
-// it an answer has its buffer. The result is the number of words written.
+// it an answer has its buffer. The result is the number of words written, or -1 where the script ends within a call.
+//
+//   operation   call                  its words
+//   1           open                  those of the opening
+//   2           add                   those of the equation
+//   4           answer                the buffer's content before the call
+//   5           mark                  those of the claim
+//   6           mark                  none: the block that the last accepted answer wrote is marked where it lies
+//   7           strike from tape      the strike's word
+//   8           answer from tape      the answer's word
+//   3, others   strike                none
 pub mod acting;
 pub mod telling;
 

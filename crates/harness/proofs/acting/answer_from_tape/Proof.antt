@@ -15,6 +15,9 @@ returns c = search needs
 sub-if2 : tie.Need-sub-if2
 sub-if2 c = search needs
 
+add-if2 : tie.Need-add-if2
+add-if2 c = search needs
+
 returns-2 : tie.Need-returns-2
 returns-2 c = search needs
 
@@ -63,6 +66,7 @@ answer-from-tape-spec =
     (tie.spec
     returns
     sub-if2
+    add-if2
     returns-2
     add-block
     first-requires
