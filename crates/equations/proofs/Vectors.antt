@@ -4,7 +4,6 @@
 --   vector-of                      such a list is a vector
 --   below-combine                  a combination mod m has entries below m
 --   below-zeros                    zeros are below m
---   below-larger                   residues of m are residues of a larger number
 --   below-at, below-take, below-drop   an entry, the front and the rest of a list of residues
 --   below-append                   residues behind residues
 --   below-mono                     what is below m is below a larger number
@@ -76,10 +75,6 @@ below-append m (x ∷ v) w a b = (a .0, below-append m v w (a .1) b)
 pub below-mono : (m k : ℕ) (v : List ℕ) → m ≤ k → Below m v → Below k v
 below-mono m k [] h b = tt
 below-mono m k (x ∷ v) h b = (omega (arith, b .0), below-mono m k v h (b .1))
-
-pub below-larger : (m k : ℕ) (xs : List ℕ) → m ≤ k → Below m xs → Below k xs
-below-larger m k [] h b = tt
-below-larger m k (x ∷ xs) h b = (omega (arith, b .0), below-larger m k xs h (b .1))
 
 pub below-zeros : (m j : ℕ) → 0 < m → Below m (replicate j 0)
 below-zeros m zero pos = tt

@@ -1,8 +1,7 @@
 -- The answer to a safe's equations: they may be asked for it, and it shows the wanted turns.
---   lines-fit       an array of 272 numbers holds the lines
---   lines-posed     they may be solved
---   front-again     the front of the array that they were written to
---   found-turns     the answer's starting vector is the first turns, if any
+--   lines-fit                an array of 272 numbers holds the lines
+--   lines-posed              they may be solved
+--   found-turns              the answer's starting vector is the first turns, if any
 --   found-none, found-some   what its head says of them
 use mathlib.Core.List.{List, _∷_, _++_, flatten, head-eq-of-cons-eq, tail-eq-of-cons-eq}
 use mathlib.Core.Option.{Option, none, some}

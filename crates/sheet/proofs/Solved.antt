@@ -13,7 +13,7 @@ use lib.Seq.{length-take-le}
 use Rattle.equations.specs.Vectors.{Below}
 use Rattle.equations.specs.Equation.{Equation}
 use Rattle.equations.specs.Lines.{equationsOf}
-use Rattle.equations.proofs.Vectors.{below-larger}
+use Rattle.equations.proofs.Vectors.{below-mono}
 use Rattle.equations.proofs.Lines.{equations-shaped}
 use Rattle.system.specs.Block.{blockOf}
 use Rattle.system.proofs.Block.{block-head, block-start, block-below}
@@ -53,6 +53,6 @@ module _ (s : Sheet) (reads : readable s ≡ true) (head len : ℕ) (numbers : L
     pub solved-below : Below numbersOfAKind (take len numbers)
     solved-below =
         let f = readable-fit s reads in
-        below-larger (s .modulus) numbersOfAKind (take len numbers) (omega (arith, f .largest))
+        below-mono (s .modulus) numbersOfAKind (take len numbers) (omega (arith, f .largest))
         (subst (λ (z : List ℕ). Below (s .modulus) (drop 1 z)) (sym is)
         (block-below (s .modulus) (s .unknowns) es (omega (arith, f .modulus)) (equations-shaped (s .unknowns) (linesIn s))))

@@ -37,6 +37,16 @@ module _ (m n : ℕ) (es : List Equation) where
   unfolding blockOf
   multipliers-block h = ap (λ (o : Option (List ℕ)). blockWith o (stepsOf m n es) (multipliersOf m n es)) h
 
+  solved-length : (c : List ℕ) → startOf m n es ≡ some c → length (blockOf m n es) ≡ 1 + n + length (stepsOf m n es) * n
+  solved-length c h =
+      rw (block-some c h)
+      (omega (
+        arith,
+        length-append c (flatten (stepsOf m n es)),
+        vector-length m n c (start-solves m n es c h .0),
+        flat-length m n (stepsOf m n es) (steps-vectors m n es),
+      ))
+
   pub block-head : getD (blockOf m n es) 0 0 ≤ n + 1
   block-head = ⊎-elim unsolved solved (start-found m n es)
     where
@@ -53,9 +63,7 @@ module _ (m n : ℕ) (es : List Equation) where
       unsolved h = absurd (omega (arith, ap (λ (z : List ℕ). getD z 0 0) (multipliers-block h)))
 
       solved : (c : List ℕ) × (startOf m n es ≡ some c) → n < length (blockOf m n es)
-      solved (c, h) =
-          rw (block-some c h)
-          (omega (arith, length-append c (flatten (stepsOf m n es)), vector-length m n c (start-solves m n es c h .0)))
+      solved (c, h) = omega (arith, solved-length c h)
 
   -- for every vector that the head counts there are n numbers behind it
   pub block-vectors : getD (blockOf m n es) 0 0 * n < length (blockOf m n es)
@@ -65,14 +73,7 @@ module _ (m n : ℕ) (es : List Equation) where
       unsolved h = rw (multipliers-block h) (omega arith)
 
       solved : (c : List ℕ) × (startOf m n es ≡ some c) → getD (blockOf m n es) 0 0 * n < length (blockOf m n es)
-      solved (c, h) =
-          rw (block-some c h)
-          (omega (
-            arith,
-            length-append c (flatten (stepsOf m n es)),
-            vector-length m n c (start-solves m n es c h .0),
-            flat-length m n (stepsOf m n es) (steps-vectors m n es),
-          ))
+      solved (c, h) = rw (ap (λ (z : List ℕ). getD z 0 0) (block-some c h)) (omega (arith, solved-length c h))
 
   module _ (pos : 0 < m) (shaped : Shaped n es) where
     pub block-none : startOf m n es ≡ none → (ks : List ℕ) × (blockOf m n es ≡ 0 ∷ ks) × T (refutes m n es ks)
@@ -106,12 +107,9 @@ module _ (m n : ℕ) (es : List Equation) where
 
         solved : (c : List ℕ) × (startOf m n es ≡ some c) → length (blockOf m n es) ≤ 273
         solved (c, h) =
-            rw (block-some c h)
-            (omega (
+            omega (
               arith,
-              length-append c (flatten (stepsOf m n es)),
-              vector-length m n c (start-solves m n es c h .0),
-              flat-length m n (stepsOf m n es) (steps-vectors m n es),
+              solved-length c h,
               mul-le-mul {n₁ = length (stepsOf m n es)} {m₁ = n} {n₂ = 16} {m₂ = 16}
                   (omega (arith, steps-few m n es)) unknowns,
-            ))
+            )

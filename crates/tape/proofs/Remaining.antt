@@ -3,7 +3,7 @@
 --   lines-remaining     those of the whole tape are its lines
 --   remaining-step      the lines of the first call, and what remains behind it
 --   remaining-end       less than a word prints the line of the bytes left over
---   used-some, -whole   a step takes a word at least, and no more than there is
+--   used-some, -fits    a step takes a word at least, and no more than there is
 use mathlib.Core.Path.{_≡_, refl, sym, ap, _∙_}
 use mathlib.Core.List.{List, [], _∷_, _++_, append-assoc}
 use Prim.Native.Nat.{ℕ, zero, suc, _*_, _/_, _%_, _≤_, _<_, min}

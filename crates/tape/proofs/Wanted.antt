@@ -38,27 +38,15 @@ module _ (l : Ledger) (w : ℕ) where
   pub wants-equation : (n : ℕ) → kindOf w ≡ 3 → unknownsOf l ≡ n → n + 1 ≡ wanted l w
   wants-equation n is same = sym (wanted-is ∙ rw (ne-eqb (kindOf w) 1 (λ p. omega arith), eq-eqb (kindOf w) 3 is, same))
 
+  head-wants : kindOf w ≡ 5 → wanted l w ≡ cond (leb (numberOf w) 17) (1 + unknownsOf l * numberOf w) 1
+  head-wants is =
+      wanted-is ∙ rw (ne-eqb (kindOf w) 1 (λ p. omega arith), ne-eqb (kindOf w) 3 (λ p. omega arith), eq-eqb (kindOf w) 5 is)
+
   pub wants-claim : (n x : ℕ) → kindOf w ≡ 5 → x ≡ numberOf w → x ≤ 17 → unknownsOf l ≡ n → 1 + n * x ≡ wanted l w
-  wants-claim n x is its few same =
-      sym (wanted-is
-      ∙ rw (
-        ne-eqb (kindOf w) 1 (λ p. omega arith),
-        ne-eqb (kindOf w) 3 (λ p. omega arith),
-        eq-eqb (kindOf w) 5 is,
-        ← its,
-        le-leb x 17 few,
-        same,
-      ))
+  wants-claim n x is its few same = sym (head-wants is ∙ rw (← its, le-leb x 17 few, same))
 
   pub wants-head : kindOf w ≡ 5 → 17 < numberOf w → 1 ≡ wanted l w
-  wants-head is many =
-      sym (wanted-is
-      ∙ rw (
-        ne-eqb (kindOf w) 1 (λ p. omega arith),
-        ne-eqb (kindOf w) 3 (λ p. omega arith),
-        eq-eqb (kindOf w) 5 is,
-        lt-leb (numberOf w) 17 many,
-      ))
+  wants-head is many = sym (head-wants is ∙ rw (lt-leb (numberOf w) 17 many))
 
   pub wants-one : (kindOf w ≡ 1 → ⊥) → (kindOf w ≡ 3 → ⊥) → (kindOf w ≡ 5 → ⊥) → 1 ≡ wanted l w
   wants-one not-1 not-3 not-5 =
