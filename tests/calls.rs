@@ -1,122 +1,17 @@
-//! Lists of direct calls on a sheet against the reference, which keeps a plain list and tries all vectors. Multipliers are left
-//! free, so they are compared by their property alone.
+//! Lists of direct calls on a sheet: any at all, and those at the limits of a sheet, of a call's words and of a buffer.
+mod acts;
 mod exercises;
 mod harness;
 mod ledger;
 mod random;
 mod reference;
 
+use acts::{add, answer, entering, expect, last, mark, open, outcomes, random_system, untouched, Tally};
 use exercises::{chance, pick};
-use harness::{Act, Outcome, Reply, FILL, TAPE_BUFFER};
-use ledger::{Call, Ledger, Said, Solved};
+use harness::{Act, Outcome, TAPE_BUFFER};
+use ledger::{Call, Ledger};
 use random::Random;
-use reference::{Answer, System};
-use std::collections::BTreeSet;
-
-/// What a buffer of this length holds before an answer; the content differs from place to place.
-fn untouched(length: usize) -> Vec<u32> {
-    (0..length as u32).map(|place| 0xC0DE_0000 + place).collect()
-}
-
-fn open(m: u32, n: u32) -> Act {
-    Act::Open(ledger::opening(m, n))
-}
-
-fn add(numbers: &[u32]) -> Act {
-    Act::Add(ledger::equation(numbers))
-}
-
-fn answer(length: usize) -> Act {
-    Act::Answer(untouched(length))
-}
-
-fn mark(vectors: &[Vec<u32>]) -> Act {
-    Act::Mark(ledger::claim(vectors))
-}
-
-/// An opening, and a call for each equation.
-fn entering(system: &System) -> Vec<Act> {
-    [open(system.m, system.n as u32)].into_iter().chain(system.equations.iter().map(|equation| add(equation))).collect()
-}
-
-/// Why the reply is not that of a call which the reference answers so, where `before` is the ledger that it found.
-fn wrong_reply(act: &Act, reply: &Reply, said: &Said, before: &Ledger) -> Option<String> {
-    let old = match act {
-        Act::Answer(buffer) => buffer.clone(),
-        Act::AnswerFromTape(_) => vec![FILL; TAPE_BUFFER],
-        _ => vec![],
-    };
-    let expected = match (said, reply.outcome) {
-        (Said::Answered(solved), outcome) => return wrong_answer(solved, outcome, &old, &reply.buffer, before),
-        (Said::Opened { .. }, _) => Outcome::Holds(0),
-        (Said::Added(held) | Said::Struck(held), _) => Outcome::Holds(*held),
-        (Said::Passed, _) => Outcome::Pass,
-        (Said::Failed, _) => Outcome::Fail,
-        (Said::PassedOrFailed, Outcome::Pass) => Outcome::Pass,
-        (Said::PassedOrFailed, _) => Outcome::Fail,
-        (Said::Refused(number), _) => Outcome::Refused(*number),
-    };
-    let good = Reply { outcome: expected, buffer: old };
-    (*reply != good).then(|| format!("{reply:x?} is not {good:x?}"))
-}
-
-/// Why an accepted answer is wrong: its block, its length, or a buffer word past it.
-fn wrong_answer(solved: &Solved, outcome: Outcome, old: &[u32], buffer: &[u32], before: &Ledger) -> Option<String> {
-    let Ledger::Opened(system) = before else { unreachable!("question 4") };
-    match outcome {
-        Outcome::Wrote(length) if 0 < length && length <= old.len() => {
-            if buffer[length..] != old[length..] {
-                return Some(format!("{buffer:x?} was changed behind word {length}"));
-            }
-            ledger::wrong_block(system, &buffer[..length])
-        }
-        Outcome::Refused(8) if *solved == Solved::Unknown && old.len() < TAPE_BUFFER && buffer == old => None,
-        _ => Some(format!("{outcome:?} where {solved:?} is the answer")),
-    }
-}
-
-/// Which call was refused with which number.
-type Tally = BTreeSet<(&'static str, u32)>;
-
-/// Every call of the list does what the reference says. The refusals go to the tally.
-fn expect(acts: &[Act], seed: u64, tally: &mut Tally) -> Vec<Reply> {
-    let replies = harness::run(acts);
-    let (mut sheet, mut block) = (Ledger::Unopened, vec![]);
-    for (place, (act, reply)) in acts.iter().zip(&replies).enumerate() {
-        let call = match act {
-            Act::Open(words) => Call::Open(words.clone()),
-            Act::Add(words) => Call::Add(words.clone()),
-            Act::Strike => Call::Strike,
-            Act::Answer(buffer) => Call::Answer(buffer.len()),
-            Act::Mark(words) => Call::Mark(words.clone()),
-            Act::MarkBlock => Call::Mark(block.clone()),
-            Act::StrikeFromTape(word) => Call::StrikeFromTape(*word),
-            Act::AnswerFromTape(word) => Call::AnswerFromTape(*word),
-        };
-        let before = sheet.clone();
-        let said = sheet.run(&call);
-        if let Some(why) = wrong_reply(act, reply, &said, &before) {
-            panic!("call {place}, {act:x?}: {why} (seed {seed})\nledger: {before:?}\nscript: {acts:x?}");
-        }
-        if let Said::Refused(number) = said {
-            tally.insert((call.name(), number));
-        }
-        if let Outcome::Wrote(length) = reply.outcome {
-            block = reply.buffer[..length].to_vec();
-        }
-    }
-    replies
-}
-
-/// The outcomes alone of a list that does what the reference says.
-fn outcomes(acts: &[Act]) -> Vec<Outcome> {
-    expect(acts, 0, &mut Tally::new()).iter().map(|reply| reply.outcome).collect()
-}
-
-/// The outcome of the last call of such a list.
-fn last(acts: &[Act]) -> Outcome {
-    *outcomes(acts).last().unwrap()
-}
+use reference::System;
 
 /// A call on a sheet that reads as this ledger. A sheet that is being filled gets many equations.
 fn random_act(random: &mut Random, sheet: &Ledger, filling: bool) -> Act {
@@ -199,128 +94,6 @@ fn random_lists_of_calls_do_what_the_paper_says_and_every_call_meets_its_refusal
     }
     let all: Tally = REFUSALS.iter().flat_map(|(name, numbers)| numbers.iter().map(|&number| (*name, number))).collect();
     assert_eq!(tally, all, "refusals seen, and refusals to be seen");
-}
-
-/// A sheet for which all vectors can be tried, with some equations.
-fn random_system(random: &mut Random) -> System {
-    let (m, n) = exercises::small_shape(random);
-    let mut system = System { m, n: n as usize, equations: vec![] };
-    for _ in 0..random.below(5) {
-        let mut sheet = Ledger::Opened(system.clone());
-        sheet.run(&Call::Add(exercises::equation(random, &system)));
-        let Ledger::Opened(grown) = sheet else { unreachable!() };
-        system = grown;
-    }
-    system
-}
-
-/// The same with its answer, which it has.
-fn random_solvable(random: &mut Random) -> (System, Answer) {
-    loop {
-        let system = random_system(random);
-        if let Solved::Vectors(answer) = ledger::solve(&system) {
-            return (system, answer);
-        }
-    }
-}
-
-fn random_unsolvable(random: &mut Random) -> System {
-    loop {
-        let system = random_system(random);
-        if ledger::solve(&system) == Solved::Nothing {
-            return system;
-        }
-    }
-}
-
-#[test]
-fn claims_that_are_right_in_another_form_pass() {
-    let mut random = Random::new();
-    let mut longest = 0;
-    for _ in 0..2_000 {
-        let (system, answer) = random_solvable(&mut random);
-        let claim = exercises::right_claim(&mut random, system.m, &answer);
-        longest = longest.max(claim.len());
-        let acts = [entering(&system), vec![mark(&claim)]].concat();
-        assert_eq!(last(&acts), Outcome::Pass, "{system:?}: {claim:?} (seed {})", random.seed);
-    }
-    assert!(longest > 8, "{longest}");
-}
-
-#[test]
-fn a_claim_may_have_more_steps_than_unknowns_up_to_head_17() {
-    let mut random = Random::new();
-    for _ in 0..100 {
-        let (system, answer) = random_solvable(&mut random);
-        let mut claim = ledger::vectors_of(&answer);
-        claim.resize(17, vec![0; system.n]);
-        let mut longer = claim.clone();
-        longer.push(vec![0; system.n]);
-        let acts = [entering(&system), vec![mark(&claim), mark(&longer)]].concat();
-        let found = outcomes(&acts);
-        assert_eq!(found[found.len() - 2..], [Outcome::Pass, Outcome::Refused(1)], "{system:?} (seed {})", random.seed);
-    }
-}
-
-#[test]
-fn a_claim_that_is_one_step_short_fails_unless_the_others_lead_there() {
-    let mut random = Random::new();
-    let (mut passed, mut failed) = (0, 0);
-    while failed < 500 {
-        let (system, answer) = random_solvable(&mut random);
-        for place in 0..answer.steps.len() {
-            let mut claim = ledger::vectors_of(&answer);
-            claim.remove(1 + place);
-            match last(&[entering(&system), vec![mark(&claim)]].concat()) {
-                Outcome::Pass => passed += 1,
-                outcome => {
-                    assert_eq!(outcome, Outcome::Fail, "{system:?}: {claim:?} (seed {})", random.seed);
-                    failed += 1;
-                }
-            }
-        }
-    }
-    assert!(passed > 0, "{passed} passed, {failed} failed");
-    // twice 2 1 is 0 2, while 0 2 leads to nothing with a 2 in front
-    let acts = [open(4, 2), add(&[1, 2, 0])];
-    let marks = [mark(&[vec![0, 0], vec![2, 1]]), mark(&[vec![0, 0], vec![0, 2]])];
-    assert_eq!(outcomes(&[&acts[..], &marks].concat())[2..], [Outcome::Pass, Outcome::Fail]);
-}
-
-#[test]
-fn claims_changed_in_one_place_are_marked_by_what_they_then_describe() {
-    let mut random = Random::new();
-    let (mut passed, mut failed) = (0, 0);
-    for _ in 0..2_000 {
-        let (system, answer) = random_solvable(&mut random);
-        let right = exercises::right_claim(&mut random, system.m, &answer);
-        let claim = exercises::changed_claim(&mut random, system.m, &right);
-        match last(&[entering(&system), vec![mark(&claim)]].concat()) {
-            Outcome::Pass => passed += 1,
-            Outcome::Fail => failed += 1,
-            other => panic!("{system:?}: {claim:?}: {other:?} (seed {})", random.seed),
-        }
-    }
-    assert!(passed > 100 && failed > 100, "{passed} passed, {failed} failed");
-}
-
-#[test]
-fn without_solution_head_0_alone_passes() {
-    let mut random = Random::new();
-    for _ in 0..200 {
-        let system = random_unsolvable(&mut random);
-        let other = loop {
-            let claim = exercises::any_claim(&mut random, system.m, system.n);
-            if !claim.is_empty() {
-                break claim;
-            }
-        };
-        let found = outcomes(&[entering(&system), vec![mark(&[]), mark(&other)]].concat());
-        let expected = [Outcome::Pass, Outcome::Fail];
-        assert_eq!(found[found.len() - 2..], expected, "{system:?}: {other:?} (seed {})", random.seed);
-    }
-    let (system, _) = random_solvable(&mut random);
-    assert_eq!(last(&[entering(&system), vec![mark(&[])]].concat()), Outcome::Fail, "{system:?}");
 }
 
 #[test]
@@ -437,33 +210,6 @@ fn strikes_bring_back_every_earlier_answer() {
             assert_eq!(up, down, "{held} equations of {system:?} (seed {})", random.seed);
         }
         assert_eq!(replies[66].outcome, Outcome::Refused(7));
-    }
-}
-
-#[test]
-fn the_block_that_an_answer_wrote_passes_where_there_is_a_solution() {
-    let mut random = Random::new();
-    for _ in 0..300 {
-        let (system, found) = random_solvable(&mut random);
-        let length = 1 + (1 + found.steps.len()) * system.n;
-        for extra in [0, 1, 5] {
-            let acts = [entering(&system), vec![answer(length + extra), Act::MarkBlock]].concat();
-            let outcomes = outcomes(&acts);
-            let expected = [Outcome::Wrote(length), Outcome::Pass];
-            assert_eq!(outcomes[outcomes.len() - 2..], expected, "{system:?} (seed {})", random.seed);
-        }
-    }
-}
-
-#[test]
-fn the_block_of_a_sheet_without_solution_is_no_claim() {
-    let mut random = Random::new();
-    for _ in 0..200 {
-        let system = random_unsolvable(&mut random);
-        let length = 1 + system.equations.len();
-        let outcomes = outcomes(&[entering(&system), vec![answer(length), Act::MarkBlock, mark(&[])]].concat());
-        let expected = [Outcome::Wrote(length), Outcome::Refused(1), Outcome::Pass];
-        assert_eq!(outcomes[outcomes.len() - 3..], expected, "{system:?} (seed {})", random.seed);
     }
 }
 

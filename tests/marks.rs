@@ -1,0 +1,128 @@
+//! Claims that are marked on a sheet: right in every form, changed, short of a step, and of a sheet without solution.
+mod acts;
+mod exercises;
+mod harness;
+mod ledger;
+mod random;
+mod reference;
+
+use acts::{add, answer, entering, last, mark, open, outcomes, random_solvable, random_unsolvable};
+use harness::{Act, Outcome};
+use random::Random;
+
+#[test]
+fn claims_that_are_right_in_another_form_pass() {
+    let mut random = Random::new();
+    let mut longest = 0;
+    for _ in 0..2_000 {
+        let (system, answer) = random_solvable(&mut random);
+        let claim = exercises::right_claim(&mut random, system.m, &answer);
+        longest = longest.max(claim.len());
+        let acts = [entering(&system), vec![mark(&claim)]].concat();
+        assert_eq!(last(&acts), Outcome::Pass, "{system:?}: {claim:?} (seed {})", random.seed);
+    }
+    assert!(longest > 8, "{longest}");
+}
+
+#[test]
+fn a_claim_may_have_more_steps_than_unknowns_up_to_head_17() {
+    let mut random = Random::new();
+    for _ in 0..100 {
+        let (system, answer) = random_solvable(&mut random);
+        let mut claim = ledger::vectors_of(&answer);
+        claim.resize(17, vec![0; system.n]);
+        let mut longer = claim.clone();
+        longer.push(vec![0; system.n]);
+        let acts = [entering(&system), vec![mark(&claim), mark(&longer)]].concat();
+        let found = outcomes(&acts);
+        assert_eq!(found[found.len() - 2..], [Outcome::Pass, Outcome::Refused(1)], "{system:?} (seed {})", random.seed);
+    }
+}
+
+#[test]
+fn a_claim_that_is_one_step_short_fails_unless_the_others_lead_there() {
+    let mut random = Random::new();
+    let (mut passed, mut failed) = (0, 0);
+    while failed < 500 {
+        let (system, answer) = random_solvable(&mut random);
+        for place in 0..answer.steps.len() {
+            let mut claim = ledger::vectors_of(&answer);
+            claim.remove(1 + place);
+            match last(&[entering(&system), vec![mark(&claim)]].concat()) {
+                Outcome::Pass => passed += 1,
+                outcome => {
+                    assert_eq!(outcome, Outcome::Fail, "{system:?}: {claim:?} (seed {})", random.seed);
+                    failed += 1;
+                }
+            }
+        }
+    }
+    assert!(passed > 0, "{passed} passed, {failed} failed");
+    // twice 2 1 is 0 2, while 0 2 leads to nothing with a 2 in front
+    let acts = [open(4, 2), add(&[1, 2, 0])];
+    let marks = [mark(&[vec![0, 0], vec![2, 1]]), mark(&[vec![0, 0], vec![0, 2]])];
+    assert_eq!(outcomes(&[&acts[..], &marks].concat())[2..], [Outcome::Pass, Outcome::Fail]);
+}
+
+#[test]
+fn claims_changed_in_one_place_are_marked_by_what_they_then_describe() {
+    let mut random = Random::new();
+    let (mut passed, mut failed) = (0, 0);
+    for _ in 0..2_000 {
+        let (system, answer) = random_solvable(&mut random);
+        let right = exercises::right_claim(&mut random, system.m, &answer);
+        let claim = exercises::changed_claim(&mut random, system.m, &right);
+        match last(&[entering(&system), vec![mark(&claim)]].concat()) {
+            Outcome::Pass => passed += 1,
+            Outcome::Fail => failed += 1,
+            other => panic!("{system:?}: {claim:?}: {other:?} (seed {})", random.seed),
+        }
+    }
+    assert!(passed > 100 && failed > 100, "{passed} passed, {failed} failed");
+}
+
+#[test]
+fn without_solution_head_0_alone_passes() {
+    let mut random = Random::new();
+    for _ in 0..200 {
+        let system = random_unsolvable(&mut random);
+        let other = loop {
+            let claim = exercises::any_claim(&mut random, system.m, system.n);
+            if !claim.is_empty() {
+                break claim;
+            }
+        };
+        let found = outcomes(&[entering(&system), vec![mark(&[]), mark(&other)]].concat());
+        let expected = [Outcome::Pass, Outcome::Fail];
+        assert_eq!(found[found.len() - 2..], expected, "{system:?}: {other:?} (seed {})", random.seed);
+    }
+    let (system, _) = random_solvable(&mut random);
+    assert_eq!(last(&[entering(&system), vec![mark(&[])]].concat()), Outcome::Fail, "{system:?}");
+}
+
+#[test]
+fn the_block_that_an_answer_wrote_passes_where_there_is_a_solution() {
+    let mut random = Random::new();
+    for _ in 0..300 {
+        let (system, found) = random_solvable(&mut random);
+        let length = 1 + (1 + found.steps.len()) * system.n;
+        for extra in [0, 1, 5] {
+            let acts = [entering(&system), vec![answer(length + extra), Act::MarkBlock]].concat();
+            let outcomes = outcomes(&acts);
+            let expected = [Outcome::Wrote(length), Outcome::Pass];
+            assert_eq!(outcomes[outcomes.len() - 2..], expected, "{system:?} (seed {})", random.seed);
+        }
+    }
+}
+
+#[test]
+fn the_block_of_a_sheet_without_solution_is_no_claim() {
+    let mut random = Random::new();
+    for _ in 0..200 {
+        let system = random_unsolvable(&mut random);
+        let length = 1 + system.equations.len();
+        let outcomes = outcomes(&[entering(&system), vec![answer(length), Act::MarkBlock, mark(&[])]].concat());
+        let expected = [Outcome::Wrote(length), Outcome::Refused(1), Outcome::Pass];
+        assert_eq!(outcomes[outcomes.len() - 3..], expected, "{system:?} (seed {})", random.seed);
+    }
+}
