@@ -1,12 +1,13 @@
 -- What a mark says, and what may be asked about an accepted claim.
 --   marked-refused             a refused claim
---   mark-reads, mark-shape     an accepted one: the sheet is opened, and the claim has its shape
+--   mark-reads, mark-fit       an accepted one: the sheet is opened, its record is such as calls make,
+--   mark-some, mark-fits       and the claim has a head, and words for 17 vectors of 16 entries behind it at most
 --   mark-copied                its entries, copied to another place, may be marked
 --   mark-passed, mark-failed   and so they are
 use mathlib.Core.Path.{_≡_, sym, ap, subst, _∙_}
 use mathlib.Core.Bool.{Bool, true, false}
 use mathlib.Core.List.{List}
-use Prim.Native.Nat.{ℕ, _-_}
+use Prim.Native.Nat.{ℕ, _-_, _<_, _≤_}
 use borrow.Author.Tests.{ne-eqb}
 use lib.Dec.{T}
 use lib.ListN.{length, take, length-map}
@@ -20,16 +21,17 @@ use Rattle.system.specs.Claims.{Claimed, claimOf}
 use Rattle.words.specs.Words.{numberOf, numbersOf}
 use Rattle.ledger.specs.Ledger.{Ledger}
 use Rattle.ledger.specs.Shapes.{isClaim, entriesOf}
+use Rattle.ledger.specs.Block.{longestBlock}
 use Rattle.ledger.specs.Marking.{claimPasses}
 use Rattle.ledger.specs.Calls.{marks}
 use Rattle.ledger.specs.Questions.{questions, refusalOf}
-use Rattle.ledger.proofs.Claims.{claimed}
+use Rattle.ledger.proofs.Claims.{claim-some, claim-fits, claimed}
 use Rattle.ledger.proofs.Questions.{accepted-yes}
 use Rattle.sheet.specs.declared.Sheet.{Sheet}
 use Rattle.sheet.specs.declared.marking.Marked.the-variants.{Pass, Fail, Refused}
 use Rattle.sheet.specs.Record.{linesIn, readable, ledgerOf}
 use Rattle.sheet.specs.Calls.{markedOf}
-use Rattle.sheet.proofs.Reading.{lying, opened-readable, ledger-opened}
+use Rattle.sheet.proofs.Reading.{Fit, readable-fit, lying, opened-readable, ledger-opened}
 use Rattle.sheet.proofs.Turns.{answered}
 
 pub marked-refused : (l : Ledger) (ws : List ℕ) (k : ℕ) → refusalOf l (marks ws) ≡ k → (k ≡ 0 → ⊥) → Refused k ≡ markedOf l ws
@@ -49,8 +51,17 @@ module _ (s : Sheet) (ws : List ℕ) (accepted : refusalOf (ledgerOf s) (marks w
   answers-yes : AllYes (questions (lying s) (marks ws))
   answers-yes = answered s (marks ws) mark-reads accepted
 
-  pub mark-shape : T (isClaim (s .unknowns) ws)
+  mark-shape : T (isClaim (s .unknowns) ws)
   mark-shape = answers-yes .1 .0
+
+  pub mark-fit : Fit s
+  mark-fit = readable-fit s mark-reads
+
+  pub mark-some : 0 < length ws
+  mark-some = claim-some (s .unknowns) ws mark-shape
+
+  pub mark-fits : length ws ≤ longestBlock
+  mark-fits = claim-fits (s .unknowns) ws mark-shape (mark-fit .unknowns)
 
   mark-claimed : Claimed (s .modulus) (s .unknowns) (entriesOf ws)
   mark-claimed = claimed (s .unknowns) ws mark-shape (s .modulus) (answers-yes .1 .1 .0)
