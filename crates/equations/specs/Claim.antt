@@ -12,7 +12,8 @@ pub data Claim : Type 0 where
   noSolution : Claim
   from : List ℕ → List (List ℕ) → Claim
 
--- "A claim describes its start plus all combinations of its steps, coefficients 0..m-1."
+-- "A claim describes its start plus all combinations of its steps, coefficients 0..m-1.": in the field's words, the coset of
+-- the module that its steps generate.
 unfoldable pub describes : ℕ → Claim → List ℕ → Bool
 describes m noSolution v = false
 describes m (from start steps) v =

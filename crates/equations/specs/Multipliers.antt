@@ -1,4 +1,5 @@
--- What must hold of multipliers that refute a list of equations. Which ones are shown "is left free". Definitions only.
+-- What must hold of multipliers that refute a list of equations: in the field's words, of a certificate that they have no
+-- solution. Which ones are shown "is left free". Definitions only.
 use mathlib.Core.List.{List, [], _∷_, map}
 use mathlib.Core.Bool.{Bool, true, _&&_, not}
 use Prim.Native.Nat.{ℕ, zero, suc, _%_}

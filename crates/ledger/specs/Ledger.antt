@@ -1,4 +1,5 @@
--- The ledger: what a sheet holds, in document 01's terms. Definitions only.
+-- The ledger: what a sheet holds, in document 01's terms; in the field's, the abstract state that a list of calls leads to.
+-- Definitions only.
 use mathlib.Core.Bool.{Bool, true, false}
 use mathlib.Core.List.{List, []}
 use Prim.Native.Nat.{ℕ}

@@ -1,5 +1,4 @@
 -- `solving::solve` meets its contract: 272 numbers are enough for every block.
-use Prim.Native.Nat.{ℕ, _*_, _≤_}
 use native.Mathlib.Omega.{arith}
 use Rattle.system.proofs.Laid.{few}
 use borrow.Author.Needs.{needs}

@@ -1,6 +1,6 @@
 -- `solving::solve_into` meets its contract: either the vectors that were written are the block, or there are none and the
 -- multipliers are.
-use mathlib.Core.Path.{refl, ap, _∙_}
+use mathlib.Core.Path.{ap, _∙_}
 use mathlib.Core.List.{List, _∷_}
 use Prim.Native.Nat.{ℕ, _+_, _*_, _≤_}
 use native.Mathlib.Nat.{mul-le-mul}
