@@ -74,12 +74,12 @@ slice-aggregate-copy-bytes c =
 sub-copy-bytes : tie.Need-sub-copy-bytes Inv-loop μ-loop
 sub-copy-bytes c =
     let l = c .before .before .before .before .before .before .before .loop in
-    room-behind (l .inv .2) (c .before .before .before .before .before .before .before .before .before .before .before .pre .1) (l .inv .1)
+    omega (arith, room-behind (l .inv .2) (c .before .before .before .before .before .before .before .before .before .before .before .pre .1) (l .inv .1))
 
 part-copy-bytes-start : tie.Need-part-copy-bytes-start Inv-loop μ-loop
 part-copy-bytes-start c =
     let l = c .before .before .before .before .before .before .before .loop in
-    room-behind (l .inv .2) (c .before .before .before .before .before .before .before .before .before .before .before .pre .1) (l .inv .1)
+    omega (arith, room-behind (l .inv .2) (c .before .before .before .before .before .before .before .before .before .before .before .pre .1) (l .inv .1))
 
 part-copy-bytes-end : tie.Need-part-copy-bytes-end Inv-loop μ-loop
 part-copy-bytes-end c = search needs
@@ -140,12 +140,12 @@ slice-aggregate-copy-bytes-2 c =
 sub-copy-bytes-2 : tie.Need-sub-copy-bytes-2 Inv-loop μ-loop
 sub-copy-bytes-2 c =
     let l = c .before .before .before .before .before .loop in
-    room-behind (l .inv .2) (c .before .before .before .before .before .before .before .before .before .pre .1) (l .inv .1)
+    omega (arith, room-behind (l .inv .2) (c .before .before .before .before .before .before .before .before .before .pre .1) (l .inv .1))
 
 part-copy-bytes-start-2 : tie.Need-part-copy-bytes-start-2 Inv-loop μ-loop
 part-copy-bytes-start-2 c =
     let l = c .before .before .before .before .before .loop in
-    room-behind (l .inv .2) (c .before .before .before .before .before .before .before .before .before .pre .1) (l .inv .1)
+    omega (arith, room-behind (l .inv .2) (c .before .before .before .before .before .before .before .before .before .pre .1) (l .inv .1))
 
 part-copy-bytes-end-2 : tie.Need-part-copy-bytes-end-2 Inv-loop μ-loop
 part-copy-bytes-end-2 c = search needs
