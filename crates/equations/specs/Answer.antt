@@ -1,6 +1,6 @@
 -- Document 01's answer to a list of equations in n unknowns mod m: the starting vector, the steps, and the ranges
 -- of their coefficients. In the field's words: a particular solution, the first in lexicographic order, and generators of the
--- solutions of the homogeneous equations, which are the rows of that module's Howell form (Howell 1986). Definitions only.
+-- solutions of the homogeneous equations. Definitions only.
 use mathlib.Core.List.{List, [], _∷_, map}
 use mathlib.Core.Option.{Option, none, some}
 use mathlib.Core.Bool.{Bool, false, _&&_, not}
