@@ -1,7 +1,8 @@
 /*
  * milebadger_solve beside the best that a user could write over FLINT and over PARI: the same systems, one process, one thread,
- * the contenders in turn. Prints a line for each case: microseconds of processor time per solve, the
- * least of 15 rounds, and ratios.
+ * the contenders in turn. Prints a line for each case: microseconds of processor time per solve, the least of 15 rounds, and
+ * ratios. Each round goes through 1,024 systems, or as many as the program's argument says: with few of them the processor learns
+ * the branches of every single one, which it cannot of the systems that a workbench meets.
  *
  * FLINT: nmod_mat_howell_form of the rows [coefficients reversed, right side], then back substitution by hand: the first solution
  * and the steps as milebadger_solve gives them, and compared with its. Without a solution a second form, of the rows with an
@@ -18,7 +19,7 @@
 
 #include "milebadger.h"
 
-enum { SYSTEMS = 64, ROUNDS = 15, MOST = 16, BLOCK = 1 + 17 * MOST };
+enum { SYSTEMS = 1024, ROUNDS = 15, MOST = 16, BLOCK = 1 + 17 * MOST };
 
 typedef enum { DENSE, SPARSE, UNSOLVABLE, KINDS } kind;
 
@@ -28,6 +29,9 @@ typedef struct {
     uint32_t m, n;
     uint32_t lines[SYSTEMS][MOST * (MOST + 1)];
 } systems;
+
+/* how many of the systems are drawn and solved */
+static int drawn = SYSTEMS;
 
 static void fail(const char *what, const systems *s)
 {
@@ -57,7 +61,7 @@ static uint32_t dot(const uint32_t *a, const uint32_t *x, uint32_t n, uint32_t m
 static void draw(systems *s, kind k)
 {
     uint32_t n = s->n, m = s->m, w = n + 1;
-    for (int i = 0; i < SYSTEMS; i++) {
+    for (int i = 0; i < drawn; i++) {
         uint32_t *lines = s->lines[i], x[MOST];
         for (uint32_t c = 0; c < n; c++)
             x[c] = below(m);
@@ -216,7 +220,7 @@ static int refutes(const systems *s, const uint32_t *lines, const uint32_t *fact
 static void compare(const systems *s, kind k)
 {
     uint32_t n = s->n;
-    for (int i = 0; i < SYSTEMS; i++) {
+    for (int i = 0; i < drawn; i++) {
         solve_milebadger(s, i);
         solve_flint(s, i);
         if (ours[0] != theirs[0] || (ours[0] != 0 && memcmp(ours, theirs, (1 + ours[0] * n) * sizeof *ours) != 0))
@@ -248,8 +252,8 @@ static double microseconds(solver solve, const systems *s, int count)
 {
     struct timespec start, end;
     clock_gettime(CLOCK_THREAD_CPUTIME_ID, &start);
-    for (int i = 0; i < count; i++)
-        solve(s, i % SYSTEMS);
+    for (int i = 0, next = 0; i < count; i++, next = next + 1 < drawn ? next + 1 : 0)
+        solve(s, next);
     clock_gettime(CLOCK_THREAD_CPUTIME_ID, &end);
     return ((end.tv_sec - start.tv_sec) * 1e6 + (end.tv_nsec - start.tv_nsec) / 1e3) / count;
 }
@@ -260,8 +264,8 @@ static void measure(const systems *s, kind k)
     double least[3];
     int counts[3];
     for (int c = 0; c < 3; c++) {
-        least[c] = microseconds(solvers[c], s, SYSTEMS);
-        counts[c] = (int)(2000.0 / least[c]) + SYSTEMS;
+        least[c] = microseconds(solvers[c], s, drawn);
+        counts[c] = (int)(2000.0 / least[c]) + drawn;
     }
     for (int round = 0; round < ROUNDS; round++)
         for (int c = 0; c < 3; c++) {
@@ -273,11 +277,17 @@ static void measure(const systems *s, kind k)
         least[1] / least[0], least[2] / least[0]);
 }
 
-int main(void)
+int main(int count, char **words)
 {
     static const uint32_t moduli[] = {12, 60, 65535, 65521, 32768, 1u << 31, 4294967295u};
     static const uint32_t sizes[] = {2, 4, 8, 16};
     static systems s;
+    if (count > 1)
+        drawn = atoi(words[1]);
+    if (drawn < 1 || drawn > SYSTEMS) {
+        fprintf(stderr, "contenders: 1 to %d systems\n", SYSTEMS);
+        return 2;
+    }
     pari_init(1u << 26, 0);
     printf("%-33s %10s %10s %10s %12s %12s\n", "case", "ours us", "FLINT us", "PARI us", "FLINT/ours", "PARI/ours");
     for (kind k = DENSE; k < KINDS; k++)
