@@ -3,10 +3,13 @@
 --   vectors-long                 each vector has n entries
 --   vectors-listed               of residues, each is a vector of residues
 --   within-flatten, vectors-flatten   vectors that lie one behind the other are found again
+--   vectors-plain                they are plain lines
 use mathlib.Core.Path.{_≡_, refl, ap, ap₂, _∙_}
+use mathlib.Core.Bool.{true}
 use mathlib.Core.List.{List, [], _∷_, flatten}
-use Prim.Native.Nat.{ℕ, zero, suc, _*_, _/_, _<_, _≤_}
+use Prim.Native.Nat.{ℕ, zero, suc, _+_, _*_, _/_, _<_, _≤_}
 use native.Mathlib.Nat.{div-eq-of-lt, div-eq-of-eq-mul-left, div-mul-le-self}
+use native.Mathlib.Numerals.{add-one}
 use native.Mathlib.Omega.{arith}
 use lib.ListN.{length, take, drop, length-drop}
 use lib.Seq.{length-take-le, take-at, drop-at}
@@ -15,6 +18,7 @@ use Rattle.equations.specs.Vectors.{Below}
 use Rattle.equations.proofs.Vectors.{vector-length, vector-of, below-take, below-drop}
 use Rattle.equations.proofs.Listed.{AllVectors, flat-length}
 use Rattle.elimination.proofs.Basis.{Long}
+use Rattle.tableau.specs.Lines.{linesWithin, linesOf}
 use Rattle.system.specs.Claims.{vectorsWithin, vectorsOf}
 
 pub vectors-cons : (n : ℕ) (s : List ℕ) → 0 < n → n ≤ length s → vectorsOf n s ≡ take n s ∷ vectorsOf n (drop n s)
@@ -58,3 +62,12 @@ unfolding vectorsOf
 vectors-flatten m n vs pos h =
     ap (λ (c : ℕ). vectorsWithin c n (flatten vs)) (div-eq-of-eq-mul-left pos (flat-length m n vs h))
     ∙ within-flatten m n vs h
+
+plain-within : (c m n k i : ℕ) (s : List ℕ) → linesWithin c true m n k i s ≡ vectorsWithin c (suc n) s
+plain-within zero m n k i s = refl
+plain-within (suc c) m n k i s =
+    ap₂ {C = List (List ℕ)} _∷_ (ap (λ (j : ℕ). take j s) (add-one n)) (plain-within c m n k (suc i) (drop (suc n) s))
+
+pub vectors-plain : (m n k i : ℕ) (s : List ℕ) → linesOf true m n k i s ≡ vectorsOf (n + 1) s
+unfolding linesOf vectorsOf
+vectors-plain m n k i s = rw (add-one n) (plain-within (length s / suc n) m n k i s)

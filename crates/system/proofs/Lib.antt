@@ -9,7 +9,6 @@ pub mod Block
 pub mod Promises
 pub mod Checks
 pub mod Pivots
-pub mod Spans
 pub mod Fronts
 pub mod Marks
 pub mod Claims

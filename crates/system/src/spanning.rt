@@ -4,25 +4,21 @@ ghost use mathlib.Core.Bool.{not};
 ghost use Prim.Native.Nat.{_+_, _*_, _<_, _≤_};
 ghost use lib.ListN.{length};
 ghost use lib.Dec.{eqb};
-ghost use Rattle.residue.specs.Inverse.{inverseOf};
 ghost use Rattle.equations.specs.Vectors.{Below};
-ghost use Rattle.elimination.specs.Basis.{insert, pivot};
+ghost use Rattle.elimination.specs.Basis.{pivot};
 ghost use Rattle.elimination.specs.Basis.{basis as basisOf};
 ghost use Rattle.elimination.specs.Tableau.{tableau};
 ghost use Rattle.elimination.specs.Marking.{agree};
-ghost use Rattle.tableau.specs.Packed.{rows, triangle, Kept};
+ghost use Rattle.tableau.specs.Packed.{rows, triangle};
 ghost use Rattle.equations.specs.Lines.{equationsOf};
 ghost use Rattle.system.specs.Posed.{Posed};
 ghost use Rattle.system.specs.Claims.{vectorsOf};
 use crate::reading::packed_size;
 use crate::reading::pivot_at;
-use residue::modular::inverse_of;
 use residue::modular::product;
 use residue::modular::wide;
-use slices::copying::copy;
 use tableau::building::build;
-use tableau::building::clear;
-use tableau::insertion::insert;
+use tableau::building::fill;
 
 // Whether nothing solves the lines: the constant's own pivot is not m then.
 pub(crate) fn unsolvable(m: u32, n: usize, lines: &[u32]) -> bool
@@ -59,30 +55,12 @@ fn reaches(m: u32, n: usize, equations: &[u32], steps: &[u32]) -> bool
     agree(m, n, equations, &rows[..size])
 }
 
-// The basis of the steps, as lines of n columns.
+// The basis of the steps, as lines of n columns: a step is as long as a line in n - 1 unknowns.
 fn span(basis: &mut [u32], steps: &[u32], m: u32, n: usize)
     requires { ⌜ (0 < m) × (0 < n) × (n ≤ 16) × (length (now basis) ≡ triangle n n) × Below m (now steps) ⌝ }
     ensures { λ _. ⌜ rows n n (now (basis .exit)) ≡ basisOf m n 0 (vectorsOf n (now (steps .entry))) ⌝ }
 {
-    clear(basis, m, n, 0);
-    let inverse = inverse_of(m);
-    let mut rest = &steps[..];
-    while n <= rest.len() {
-        insert_step(basis, &rest[..n], m, inverse, n);
-        rest = &rest[n..];
-    }
-}
-
-// One step put into a basis. It is copied, since the insertion changes its line.
-fn insert_step(basis: &mut [u32], step: &[u32], m: u32, inverse: u64, n: usize)
-    requires { ⌜ (n ≤ 16) × (length (now step) ≡ n) × (length (now basis) ≡ triangle n n) × (inverse ≡ inverseOf m) ⌝ }
-    requires { ⌜ Kept m (rows n n (now basis)) × Below m (now step) ⌝ }
-    ensures { λ _. ⌜ rows n n (now (basis .exit)) ≡ insert m (rows n n (now (basis .entry))) (now (step .entry)) ⌝ }
-    ensures { λ _. ⌜ Kept m (rows n n (now (basis .exit))) ⌝ }
-{
-    let mut line = [0u32; 16];
-    copy(step, &mut line);
-    insert(basis, &mut line[..n], m, inverse, n);
+    fill(basis, steps, m, n - 1, 0, true);
 }
 
 // Whether at each place the pivots of the two bases multiply to m: no step is missing then.

@@ -11,4 +11,4 @@ pub mod Sums
 pub mod Entry
 pub mod Extension
 pub mod Lines
-pub mod Built
+pub mod Filled

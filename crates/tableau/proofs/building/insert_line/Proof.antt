@@ -1,4 +1,4 @@
--- `building::insert_equation` meets its contract: what is lent to `insert` is the line that `load` has written.
+-- `building::insert_line` meets its contract: what is lent to `insert` is the line that `load` has written.
 use mathlib.Core.Path.{sym, _∙_, subst}
 use mathlib.Core.List.{List, _++_}
 use Prim.Native.Nat.{ℕ, _+_}
@@ -8,11 +8,10 @@ use lib.Seq.{take-at, length-take-le}
 use borrow.Author.Needs.{needs}
 use Rattle.slices.proofs.Parts.{joined-fit, relent-length}
 use Rattle.equations.specs.Vectors.{Below}
-use Rattle.elimination.specs.Tableau.{line, unit}
-use Rattle.equations.specs.Lines.{equationAt}
+use Rattle.tableau.specs.Lines.{lineAt}
 use Rattle.tableau.proofs.Walk.{walk-line}
-use Rattle.tableau.proofs.building.insert_equation.Statement.{statement}
-use Rattle.tableau.proofs.building.insert_equation.Tie as tie
+use Rattle.tableau.proofs.building.insert_line.Statement.{statement}
+use Rattle.tableau.proofs.building.insert_line.Tie as tie
 
 -- what the local array holds at first
 abbrev blank : List ℕ
@@ -41,7 +40,7 @@ load-requires c κs =
     let a = z .args in
     let len = a .n + 1 + a .k in
     let f = length-take-le len blank (omega arith) in
-    (omega arith, f, z .pre .1 .0, z .pre .1 .1)
+    (z .pre .0 .0, f, z .pre .1 .1 .0, z .pre .1 .1 .1)
 
 array-borrow-prefix-out-2 : tie.Need-array-borrow-prefix-out-2
 array-borrow-prefix-out-2 c =
@@ -73,8 +72,8 @@ insert-requires c κs =
     let l = c .before .before .before .load in
     let e = take-at (l .last .0) (drop len blank) len (l .kept .0 ∙ f) in
     let g = relent-length len blank (l .last .0) (l .kept .0 ∙ f) in (
-      (omega (arith, g), rw g (z .pre .0 .3), z .pre .0 .4),
-      (rw g (z .pre .1 .2), subst (Below (a .m)) (sym e) (l .ensures .1)),
+      (omega (arith, g), rw g (z .pre .1 .0 .0), z .pre .0 .3),
+      (rw g (z .pre .1 .0 .1), subst (Below (a .m)) (sym e) (l .ensures .1)),
     )
 
 same-length : tie.Need-same-length
@@ -91,12 +90,12 @@ returns c =
     let g = relent-length len blank (l .last .0) (l .kept .0 ∙ f) in
     let i = c .before .before .before .insert in (
       walk-line (a .m) (a .n + 1) len (a .basis .now) (i .last .0) (take len (l .last .0 ++ drop len blank)) (l .last .0)
-          (line (a .m) (equationAt (a .n) (a .equation .now)) (unit (a .k) (a .i))) g e (l .ensures .0) (i .ensures .0),
+          (lineAt (a .plain) (a .m) (a .n) (a .k) (a .i) (a .numbers .now)) g e (l .ensures .0) (i .ensures .0),
       rw (← g) (i .ensures .1),
     )
 
-pub insert-equation-spec : {M : Type 1} → statement M
-insert-equation-spec =
+pub insert-line-spec : {M : Type 1} → statement M
+insert-line-spec =
     tie.close
     (tie.spec
     add-len
