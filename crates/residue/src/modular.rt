@@ -82,12 +82,28 @@ pub fn mul_by(a: u32, u: u32, b: u32, m: u32) -> u32
     lift(wrapping_sub_u64(product(a, b), product(quotient, m)), m)
 }
 
-// `combine` for two factors with their reciprocals, u that of s and v that of t.
+// `combine` for two factors with their reciprocals, u that of s and v that of t. The test is of m alone, so that a loop over
+// one modulus makes it once.
 pub fn combine_by(s: u32, u: u32, a: u32, t: u32, v: u32, b: u32, m: u32) -> u32
-    requires { ⌜ (s < m) × (u ≡ s * 4294967296 / m) × (t < m) × (v ≡ t * 4294967296 / m) ⌝ }
+    requires { ⌜ (s < m) × (u ≡ s * 4294967296 / m) × (t < m) × (v ≡ t * 4294967296 / m) × (a < m) × (b < m) ⌝ }
     ensures { λ r. ⌜ (r ≡ (s * a + t * b) % m) × (r < m) ⌝ }
 {
-    add(mul_by(s, u, a, m), mul_by(t, v, b, m), m)
+    if m <= 2147483648 {
+        joint(s, u, a, t, v, b, m)
+    } else {
+        add(mul_by(s, u, a, m), mul_by(t, v, b, m), m)
+    }
+}
+
+// One quotient for both products, read off both reciprocals as in `mul_by`. It is at most one too large where a + b is at most
+// 2^32.
+fn joint(s: u32, u: u32, a: u32, t: u32, v: u32, b: u32, m: u32) -> u32
+    requires { ⌜ (s < m) × (u ≡ s * 4294967296 / m) × (t < m) × (v ≡ t * 4294967296 / m) × (a + b ≤ 4294967296) ⌝ }
+    ensures { λ r. ⌜ (r ≡ (s * a + t * b) % m) × (r < m) ⌝ }
+{
+    let quotient = ((product(u + 1, a) + product(v + 1, b)) / 4294967296) as u32;
+    let sum = product(s, a) + product(t, b);
+    lift(wrapping_sub_u64(sum, product(quotient, m)), m)
 }
 
 pub fn wide(x: u32) -> u64

@@ -1,6 +1,6 @@
 -- One column of the insertion, in the four ways that the code goes. Where parts of the row R and the line W are lent, they are
 -- written as the code lends them: without their first entries.
---   row-head                          the row's first entry is a pivot
+--   row-head, row-rest                the row's first entry is a pivot, those behind it are residues
 --   column-zero                       the line's entry is 0
 --   column-divided                    the pivot divides it
 --   column-reduced                    neither; with `divided` and `quotient-le` of its quotients, and `reduction`, its numbers
@@ -33,6 +33,10 @@ use Rattle.slices.proofs.Parts.{lent, putBack, lent-is, put-back-is}
 pub row-head : (m : ℕ) (R : List ℕ) → 0 < length R → RowKept m R → (0 < getD R 0 0) × (getD R 0 0 ≤ m)
 row-head m [] h k = absurd (omega arith)
 row-head m (d ∷ R) h k = (k .0, k .1)
+
+pub row-rest : (m : ℕ) (R : List ℕ) → RowKept m R → Below m (drop 1 R)
+row-rest m [] k = tt
+row-rest m (d ∷ R) k = k .2
 
 -- 1·r + 0·w is r
 combine-left : (m : ℕ) (r w : List ℕ) → length r ≡ length w → Below m r → combine m 1 0 r w ≡ r

@@ -3,6 +3,7 @@
 --   combined-start, -next, -end   before the first turn, one turn, after the last one
 --   combined-read                 what the next turn reads is still that of o
 --   Both, both-start, -next, -end two combinations at once, the first stored over a and the second over b
+--   both-below                    what the next turn reads of residues is below m
 --   minus-is                      p·a - b is the combination with minus 1
 use mathlib.Core.Path.{_≡_, refl, sym, ap, ap₂, _∙_}
 use mathlib.Core.List.{List, [], _∷_, _++_}
@@ -16,7 +17,8 @@ use Rattle.residue.specs.Negative.{negative}
 use Rattle.residue.proofs.Congruent.{congruent-of, congruent-of-eq, congruent-refl, congruent-sym, congruent-trans}
 use Rattle.residue.proofs.Congruent.{congruent-add, congruent-mul, congruent-mod, congruent-cancel}
 use Rattle.residue.proofs.Negative.{negative-is}
-use Rattle.equations.specs.Vectors.{combine}
+use Rattle.equations.specs.Vectors.{combine, Below}
+use Rattle.equations.proofs.Vectors.{below-at}
 
 abbrev pub Combined : ℕ → ℕ → ℕ → List ℕ → List ℕ → List ℕ → ℕ → List ℕ → Type 0
 Combined m s t a b o i x = x ≡ combine m s t (take i a) (take i b) ++ drop i o
@@ -80,18 +82,28 @@ pub record Both (m s t p n : ℕ) (a b : List ℕ) (i : ℕ) (row line : List �
 pub both-start : (m s t p n : ℕ) (a b : List ℕ) → Both m s t p n a b 0 a b
 both-start m s t p n a b = record { passed = zero-le; row-length = refl; line-length = refl; row-is = refl; line-is = refl }
 
+both-read : (m s t p n : ℕ) (a b : List ℕ) (i : ℕ) (row line : List ℕ) → length a ≡ length b → i < length a
+    → Both m s t p n a b i row line → (getD row i 0 ≡ getD a i 0) × (getD line i 0 ≡ getD b i 0)
+both-read m s t p n a b i row line h l B =
+    (combined-read m s t i a b a row h refl l (B .row-is), combined-read m p n i a b b line h (sym h) l (B .line-is))
+
+pub both-below : (m s t p n : ℕ) (a b : List ℕ) (i : ℕ) (row line : List ℕ) → length a ≡ length b → i < length a
+    → Below m a → Below m b → Both m s t p n a b i row line → (getD row i 0 < m) × (getD line i 0 < m)
+both-below m s t p n a b i row line h l x y B =
+    let e = both-read m s t p n a b i row line h l B in
+    (omega (arith, e .0, below-at m i a x l), omega (arith, e .1, below-at m i b y (omega arith)))
+
 pub both-next : (m s t p n : ℕ) (a b : List ℕ) (i : ℕ) (row line : List ℕ) (x y : ℕ) → length a ≡ length b → i < length a
     → Both m s t p n a b i row line → x ≡ (s * getD row i 0 + t * getD line i 0) % m
     → y ≡ (p * getD row i 0 + n * getD line i 0) % m → Both m s t p n a b (i + 1) (set row i x) (set line i y)
 both-next m s t p n a b i row line x y h l B e f =
-    let u = combined-read m s t i a b a row h refl l (B .row-is) in
-    let v = combined-read m p n i a b b line h (sym h) l (B .line-is) in
+    let r = both-read m s t p n a b i row line h l B in
     record {
       passed = omega arith;
       row-length = length-set row i x ∙ B .row-length;
       line-length = length-set line i y ∙ B .line-length;
-      row-is = combined-next m s t i x (getD row i 0) (getD line i 0) a b a row h refl l (B .row-is) u v e;
-      line-is = combined-next m p n i y (getD row i 0) (getD line i 0) a b b line h (sym h) l (B .line-is) u v f;
+      row-is = combined-next m s t i x (getD row i 0) (getD line i 0) a b a row h refl l (B .row-is) (r .0) (r .1) e;
+      line-is = combined-next m p n i y (getD row i 0) (getD line i 0) a b b line h (sym h) l (B .line-is) (r .0) (r .1) f;
     }
 
 pub both-end : (m s t p n : ℕ) (a b : List ℕ) (i : ℕ) (row line : List ℕ) → length a ≡ length b → length row ≤ i

@@ -44,7 +44,8 @@ pub fn combine_both(
     p: u32,
     n: u32,
 )
-    requires { ⌜ (s < m) × (t < m) × (p < m) × (n < m) × (length (now row) ≡ length (now line)) × (inverse ≡ inverseOf m) ⌝ }
+    requires { ⌜ (s < m) × (t < m) × (p < m) × (n < m) × (length (now row) ≡ length (now line)) × (inverse ≡ inverseOf m)
+        × Below m (now row) × Below m (now line) ⌝ }
     ensures { λ _. ⌜ now (row .exit) ≡ combine m s t (now (row .entry)) (now (line .entry)) ⌝ }
     ensures { λ _. ⌜ now (line .exit) ≡ combine m p n (now (row .entry)) (now (line .entry)) ⌝ }
 {

@@ -9,7 +9,8 @@ use Rattle.residue.specs.Negative.{negative}
 use Rattle.equations.specs.Vectors.{combine, Below}
 use Rattle.equations.proofs.Vectors.{below-at, below-drop}
 use Rattle.slices.proofs.Parts.{lent, lent-is, lent-length}
-use Rattle.tableau.proofs.Column.{row-head, divided, quotient-le, reduction, column-zero, column-divided, column-reduced, not-both}
+use Rattle.tableau.proofs.Column.{row-head, row-rest, divided, quotient-le, reduction}
+use Rattle.tableau.proofs.Column.{column-zero, column-divided, column-reduced, not-both}
 use Rattle.tableau.proofs.insertion.insert_at.Statement.{statement}
 use Rattle.tableau.proofs.insertion.insert_at.Tie as tie
 
@@ -118,6 +119,8 @@ combine-both-requires c κs =
       omega arith,
       lent-length 1 R ∙ ap (λ (n : ℕ). n - 1) (z .pre .1) ∙ sym (lent-length 1 W),
       z .pre .4,
+      subst (Below (z .args .m)) (sym (lent-is 1 R)) (row-rest (z .args .m) R (z .pre .2)),
+      subst (Below (z .args .m)) (sym (lent-is 1 W)) (below-drop (z .args .m) 1 W (z .pre .3)),
     )
 
 slice-write-row : tie.Need-slice-write-row

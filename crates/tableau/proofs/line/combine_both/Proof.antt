@@ -4,7 +4,7 @@ use Prim.Native.Nat.{_-_}
 use native.Mathlib.Omega.{arith}
 use lib.ListN.{length}
 use borrow.Author.Needs.{needs}
-use Rattle.tableau.proofs.Combined.{Both, both-start, both-next, both-end}
+use Rattle.tableau.proofs.Combined.{Both, both-start, both-below, both-next, both-end}
 use Rattle.tableau.proofs.line.combine_both.Statement.{statement}
 use Rattle.tableau.proofs.line.combine_both.Tie as tie
 
@@ -43,10 +43,18 @@ slice-read-b : tie.Need-slice-read-b Inv-loop μ-loop
 slice-read-b c = search needs
 
 combine-by-requires : tie.Need-combine-by-requires Inv-loop μ-loop
-combine-by-requires c κs = search needs
+combine-by-requires c κs =
+    let z = c .before .before .before .before .before .before .before .before .before .before in
+    let l = c .before .before .before .loop in
+    let read = both-below _ _ _ _ _ _ _ _ _ _ (omega arith) (omega arith) (z .pre .6) (z .pre .7) (l .inv) in
+    search (needs, read)
 
 combine-by-requires-2 : tie.Need-combine-by-requires-2 Inv-loop μ-loop
-combine-by-requires-2 c κs = search needs
+combine-by-requires-2 c κs =
+    let z = c .before .before .before .before .before .before .before .before .before .before .before in
+    let l = c .before .before .before .before .loop in
+    let read = both-below _ _ _ _ _ _ _ _ _ _ (omega arith) (omega arith) (z .pre .6) (z .pre .7) (l .inv) in
+    search (needs, read)
 
 mul-row : tie.Need-mul-row Inv-loop μ-loop
 mul-row c = search needs
