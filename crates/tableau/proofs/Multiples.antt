@@ -5,7 +5,6 @@ use mathlib.Core.List.{List}
 use Prim.Native.Nat.{ℕ, _+_, _*_, _%_, _<_}
 use native.Mathlib.Omega.{arith}
 use lib.ListN.{length, getD, set}
-use Rattle.equations.specs.Vectors.{combine}
 use Rattle.tableau.proofs.Combined.{Combined, combined-next}
 
 -- b is the entry as the turn has read it

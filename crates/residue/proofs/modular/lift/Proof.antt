@@ -1,5 +1,5 @@
 -- `lift` meets its contract: the high word of the difference tells whether it is negative.
-use mathlib.Core.Path.{_≡_, refl}
+use mathlib.Core.Path.{refl}
 use Prim.Native.Nat.{_+_, _%_}
 use native.Mathlib.Omega.{arith}
 use borrow.Author.Needs.{needs}

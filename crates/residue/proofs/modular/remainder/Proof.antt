@@ -1,10 +1,8 @@
 -- `remainder` meets its contract: a number below m is its own remainder.
-use mathlib.Core.Path.{sym}
+use mathlib.Core.Path.{refl, sym}
 use native.Mathlib.Nat.{mod-lt, mod-eq-of-lt}
 use native.Mathlib.Omega.{arith}
 use borrow.Author.Needs.{needs}
-use Prim.Native.Nat.{_%_}
-use mathlib.Core.Path.{refl}
 use Rattle.residue.proofs.modular.remainder.Statement.{statement}
 use Rattle.residue.proofs.modular.remainder.Tie as tie
 

@@ -1,5 +1,5 @@
 -- `insertion::insert_at` meets its contract: a row that holds nothing yet by the callee, and a law of proofs/Column.antt for each other way out.
-use mathlib.Core.Path.{_≡_, refl, sym, ap, _∙_, subst}
+use mathlib.Core.Path.{refl, sym, ap, _∙_, subst}
 use Prim.Native.Nat.{ℕ, _-_, _%_}
 use native.Mathlib.Omega.{arith}
 use lib.ListN.{getD}
