@@ -1,23 +1,23 @@
 -- Back substitution, a column in each turn: before a turn the entries from i on are known, and the row of column i - 1 is the next.
 --   Extended                        what holds before a turn
 --   extended-start, -next, -end     before the first turn, one turn, after the last one
---   extended-begins, -ends, -asks   the next row lies in the list, has a pivot, and is as long as is wanted
+--   extended-begins, -ends, -asks   the next row lies in the list, is kept, and is as long as is wanted
 use mathlib.Core.Path.{_≡_, refl, sym, ap, ap₂, _∙_, subst}
 use mathlib.Core.List.{List, _∷_}
 use Prim.Native.Nat.{ℕ, zero, suc, _+_, _-_, _≤_, _<_}
 use native.Mathlib.Nat.{le-refl}
 use native.Mathlib.Numerals.{add-one}
 use native.Mathlib.Omega.{arith}
-use lib.ListN.{length, take, drop, getD, set, length-drop, length-set}
-use lib.Seq.{length-take-le, getD-take, set-split, drop-at}
+use lib.ListN.{length, take, drop, set, length-drop, length-set}
+use lib.Seq.{length-take-le, take-take, set-split, drop-at}
 use Rattle.equations.specs.Vectors.{Below}
 use Rattle.elimination.specs.Substitution.{fit, extend}
-use Rattle.tableau.specs.Packed.{rows, triangle, Kept}
+use Rattle.tableau.specs.Packed.{rows, triangle, RowKept, Kept}
 use Rattle.slices.proofs.Parts.{lent, lent-is, lent-length}
 use Rattle.tableau.proofs.Packed.{rows-split, triangle-last, triangle-mono, drop-row}
 use Rattle.tableau.proofs.Column.{row-head}
 use Rattle.tableau.proofs.Walk.{kept-front, kept-from}
-use Rattle.tableau.proofs.Entry.{fit-short, extend-split}
+use Rattle.tableau.proofs.Entry.{row-short, fit-short, extend-split}
 
 -- X are the entries before the first turn, x those before this one; the j rows in b begin with one of l numbers
 pub record Extended (m j l : ℕ) (b X x : List ℕ) (at i : ℕ) : Type 0 where
@@ -60,18 +60,17 @@ module _ (m j l : ℕ) (b X x : List ℕ) (at p o : ℕ) (E : Extended m j l b X
   behind-fits : l - p ≤ length (drop o b)
   behind-fits = omega (arith, length-drop o b, fits)
 
-  columns : 0 < l - p
-  columns = omega (arith, E .passed)
-
   left : 0 < j - p
   left = omega (arith, E .passed)
 
-  pivot-kept : Kept m (rows j l b) → (0 < getD (drop o b) 0 0) × (getD (drop o b) 0 0 ≤ m)
-  pivot-kept kept =
+  -- the numbers of the row that are lent
+  row-kept : Kept m (rows j l b) → RowKept m (take (length X - p) (drop o b))
+  row-kept kept =
       let n = length-take-le (l - p) (drop o b) behind-fits in
       let k = kept-from m p j l b (omega (arith, E .passed)) kept in
-      subst (λ (d : ℕ). (0 < d) × (d ≤ m)) (getD-take (l - p) (drop o b) 0 0 columns)
-      (row-head m (take (l - p) (drop o b)) (omega (arith, n, columns))
+      let h : length X - p ≤ l - p = omega (arith, wide) in
+      subst (RowKept m) (take-take (length X - p) (l - p) (drop o b) h)
+      (row-short m (length X - p) (take (l - p) (drop o b)) (omega (arith, n, h))
       (kept-front m (j - p) (l - p) (drop o b) left
       (subst (λ (n : ℕ). Kept m (rows (j - p) (l - p) (drop n b))) (sym begins-at) k)))
 
@@ -157,13 +156,15 @@ module _ (m j k : ℕ) (b X x : List ℕ) (at i : ℕ) (E : Extended m j (length
 
   pub extended-asks : length X ≤ 65536 → Kept m (rows j l b)
       → (0 < m) × (length (take (end - o) (drop o b)) ≡ length (lent (p + 1) x) + 1) × (length (lent (p + 1) x) ≤ 65536)
-      × (0 < getD (take (end - o) (drop o b)) 0 0)
+      × RowKept m (take (end - o) (drop o b))
   extended-asks few kept =
-      let d = pivot-kept m j l b X x at p o before inside wide room refl kept in (
+      let r : RowKept m (take (end - o) (drop o b)) = subst (λ (n : ℕ). RowKept m (take n (drop o b))) (sym size-is)
+      (row-kept m j l b X x at p o before inside wide room refl kept) in
+      let d = row-head m (take (end - o) (drop o b)) (omega (arith, row-length, met)) r in (
         omega (arith, d .0, d .1),
         omega (arith, row-length, rest-length, met),
         omega (arith, rest-length),
-        subst (λ (d : ℕ). 0 < d) (sym (getD-take (end - o) (drop o b) 0 0 (omega (arith, size-is, met)))) (d .0),
+        r,
       )
 
   pub extended-next : (v : ℕ) → v ≡ fit m (take (end - o) (drop o b)) (lent (p + 1) x) → v < m

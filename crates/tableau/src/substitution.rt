@@ -1,14 +1,14 @@
 // Back substitution over packed rows.
 ghost use mathlib.Core.Path.{_≡_};
 ghost use Prim.Native.Nat.{_+_, _/_, _%_, _<_, _≤_};
-ghost use lib.ListN.{length, drop, getD};
+ghost use lib.ListN.{length, drop};
 ghost use Rattle.residue.specs.Negative.{negative};
 ghost use Rattle.equations.specs.Vectors.{Below};
 ghost use Rattle.elimination.specs.Substitution.{extend, fit};
-ghost use Rattle.tableau.specs.Packed.{rows, triangle, Kept};
+ghost use Rattle.tableau.specs.Packed.{rows, triangle, RowKept, Kept};
 use crate::products::sum;
 
-// The least entry that makes a row 0, for its pivot d and the rest of its sum. No division by 1, and none by m.
+// The least entry that makes a row 0, for its pivot d and the rest of its sum. No division of 0, and none by 1.
 fn least(rest: u32, m: u32, d: u32) -> u32
     requires { ⌜ (rest < m) × (0 < d) ⌝ }
     ensures { λ r. ⌜ r ≡ negative m rest % m / d ⌝ }
@@ -20,13 +20,18 @@ fn least(rest: u32, m: u32, d: u32) -> u32
     }
 }
 
-// The entry of a row's own column, from the entries y of the columns behind it.
+// The entry of a row's own column, from the entries y of the columns behind it. A row whose pivot is m holds nothing, and
+// needs no sum.
 fn entry(row: &[u32], y: &[u32], m: u32) -> u32
-    requires { ⌜ (0 < m) × (length (now row) ≡ length (now y) + 1) × (length (now y) ≤ 65536) × (0 < getD (now row) 0 0) ⌝ }
+    requires { ⌜ (0 < m) × (length (now row) ≡ length (now y) + 1) × (length (now y) ≤ 65536) × RowKept m (now row) ⌝ }
     ensures { λ r. ⌜ (r ≡ fit m (now (row .entry)) (now (y .entry))) × (r < m) ⌝ }
 {
+    let d = row[0];
+    if d == m {
+        return 0;
+    }
     let rest = sum(&row[1..], y, m);
-    least(rest, m, row[0])
+    least(rest, m, d)
 }
 
 // The first j entries of x, the last one first, from those behind them. The j rows are `size` numbers, so that the last row is found

@@ -1,18 +1,13 @@
 -- `substitution::least` meets its contract: the rest is a residue, so that minus it is 0 or what it lacks of m.
 use mathlib.Core.Path.{_≡_, sym, ap, _∙_}
 use Prim.Native.Nat.{ℕ, _-_, _/_, _%_, _<_}
-use native.Mathlib.Nat.{zero-div, div-one, mod-self, mod-eq-of-lt}
+use native.Mathlib.Nat.{zero-div, div-one, mod-eq-of-lt}
 use native.Mathlib.Omega.{arith}
 use borrow.Author.Needs.{needs}
 use Rattle.residue.specs.Negative.{negative}
+use Rattle.tableau.proofs.Entry.{minus-none}
 use Rattle.tableau.proofs.substitution.least.Statement.{statement}
 use Rattle.tableau.proofs.substitution.least.Tie as tie
-
-minus-none : (m r : ℕ) → r ≡ 0 → r < m → negative m r % m ≡ 0
-unfolding negative
-minus-none m r e h =
-    let f : m - r % m ≡ m = omega (arith, mod-eq-of-lt h) in
-    ap (λ (k : ℕ). k % m) f ∙ mod-self m
 
 minus-some : (m r : ℕ) → (r ≡ 0 → ⊥) → r < m → negative m r % m ≡ m - r
 unfolding negative
@@ -30,7 +25,8 @@ div-result c = search needs
 returns : tie.Need-returns
 returns c =
     let a = c .before .args in
-    sym (ap (λ (k : ℕ). k / a .d) (minus-none (a .m) (a .rest) (omega arith) (omega arith)) ∙ zero-div (a .d))
+    let e : a .rest % a .m ≡ 0 = mod-eq-of-lt (omega arith) ∙ omega arith in
+    sym (ap (λ (k : ℕ). k / a .d) (minus-none (a .m) (a .rest) e) ∙ zero-div (a .d))
 
 returns-2 : tie.Need-returns-2
 returns-2 c =
