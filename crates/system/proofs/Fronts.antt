@@ -1,6 +1,8 @@
 -- A basis of w columns in the front of an array: `size` numbers of the array are lent, come back as p, and are lent again.
 --   cleared        the array
+--   lent-zeros     the front of any array of zeros
 --   front-within   the front lies in it
+--   front-zeros    it is zeros
 --   front-length   how long it is
 --   front-fits     it still lies in the array
 --   front-size     and is as long as before
@@ -14,6 +16,7 @@ use native.Mathlib.Omega.{arith}
 use lib.ListN.{length, take, drop, replicate}
 use lib.Seq.{take-at, length-take-le}
 use Rattle.slices.proofs.Parts.{joined-fit, relent-length}
+use Rattle.elimination.proofs.Leading.{take-zeros}
 use Rattle.tableau.specs.Packed.{rows, triangle}
 use Rattle.tableau.proofs.Packed.{triangle-mono}
 
@@ -21,9 +24,15 @@ use Rattle.tableau.proofs.Packed.{triangle-mono}
 abbrev pub cleared : List ℕ
 cleared = replicate 153 0
 
+pub lent-zeros : (t c size : ℕ) → size ≡ t → t ≤ c → take size (replicate {A = ℕ} c 0) ≡ replicate t 0
+lent-zeros t c size is h = ap (λ (l : ℕ). take l (replicate {A = ℕ} c 0)) is ∙ take-zeros t c h
+
 module _ (w size : ℕ) (few : w ≤ 17) (is : size ≡ triangle w w) where
   pub front-within : size ≤ length cleared
   front-within = omega (arith, triangle-mono w w 17 17 few few, is)
+
+  pub front-zeros : take size cleared ≡ replicate (triangle w w) 0
+  front-zeros = lent-zeros (triangle w w) 153 size is (triangle-mono w w 17 17 few few)
 
   pub front-length : length (take size cleared) ≡ triangle w w
   front-length = length-take-le size cleared front-within ∙ is

@@ -1,8 +1,8 @@
 // The two runs of the elimination: without carried columns for the vectors of the answer, and with one for each equation for
-// the multipliers. A basis is scratch, and has just the size that its rows need.
+// the multipliers. A basis is scratch: zeros at first, and just as many as its rows need.
 ghost use mathlib.Core.Path.{_≡_};
 ghost use Prim.Native.Nat.{_+_, _*_, _/_, _≤_};
-ghost use lib.ListN.{length, take};
+ghost use lib.ListN.{length, take, replicate};
 ghost use Rattle.elimination.specs.Multipliers.{multipliersOf};
 ghost use Rattle.equations.specs.Lines.{equationsOf};
 ghost use Rattle.tableau.specs.Packed.{triangle};
@@ -47,7 +47,7 @@ pub(crate) fn refutation(m: u32, n: usize, lines: &[u32], numbers: &mut [u32]) -
 
 // Starting vector and steps into out; their number, which is 0 where there is no solution.
 fn solution_into(basis: &mut [u32], out: &mut [u32], m: u32, n: usize, lines: &[u32]) -> usize
-    requires { ⌜ Posed m n (now lines) × (length (now basis) ≡ triangle (n + 1) (n + 1)) × (n + n * n ≤ length (now out)) ⌝ }
+    requires { ⌜ Posed m n (now lines) × (now basis ≡ replicate (triangle (n + 1) (n + 1)) 0) × (n + n * n ≤ length (now out)) ⌝ }
     ensures { λ r. ⌜ (r ≤ n + 1) × Laid n (answerVectors m n (equationsOf n (now (lines .entry)))) (now (out .exit)) r ⌝ }
 {
     build(basis, lines, m, n, 0);
@@ -60,7 +60,7 @@ fn solution_into(basis: &mut [u32], out: &mut [u32], m: u32, n: usize, lines: &[
 // The multipliers are the last numbers of the basis: the carried columns of the constant's row.
 fn multipliers_into(basis: &mut [u32], out: &mut [u32], m: u32, n: usize, k: usize, lines: &[u32])
     requires { ⌜ Posed m n (now lines) × (k ≡ length (now lines) / (n + 1)) ⌝ }
-    requires { ⌜ (length (now basis) ≡ triangle (n + 1) (n + 1 + k)) × (16 ≤ length (now out)) ⌝ }
+    requires { ⌜ (now basis ≡ replicate (triangle (n + 1) (n + 1 + k)) 0) × (16 ≤ length (now out)) ⌝ }
     ensures { λ _. ⌜ take k (now (out .exit)) ≡ multipliersOf m n (equationsOf n (now (lines .entry))) ⌝ }
 {
     build(basis, lines, m, n, k);

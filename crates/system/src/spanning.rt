@@ -2,7 +2,7 @@
 ghost use mathlib.Core.Path.{_≡_};
 ghost use mathlib.Core.Bool.{not};
 ghost use Prim.Native.Nat.{_+_, _*_, _<_, _≤_};
-ghost use lib.ListN.{length};
+ghost use lib.ListN.{length, replicate};
 ghost use lib.Dec.{eqb};
 ghost use Rattle.equations.specs.Vectors.{Below};
 ghost use Rattle.elimination.specs.Basis.{pivot};
@@ -57,7 +57,7 @@ fn reaches(m: u32, n: usize, equations: &[u32], steps: &[u32]) -> bool
 
 // The basis of the steps, as lines of n columns: a step is as long as a line in n - 1 unknowns.
 fn span(basis: &mut [u32], steps: &[u32], m: u32, n: usize)
-    requires { ⌜ (0 < m) × (0 < n) × (n ≤ 16) × (length (now basis) ≡ triangle n n) × Below m (now steps) ⌝ }
+    requires { ⌜ (0 < m) × (0 < n) × (n ≤ 16) × (now basis ≡ replicate (triangle n n) 0) × Below m (now steps) ⌝ }
     ensures { λ _. ⌜ rows n n (now (basis .exit)) ≡ basisOf m n 0 (vectorsOf n (now (steps .entry))) ⌝ }
 {
     fill(basis, steps, m, n - 1, 0, true);

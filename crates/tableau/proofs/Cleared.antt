@@ -9,15 +9,15 @@ use lib.ListN.{length, take, drop, set, replicate, length-append, length-replica
 use lib.Seq.{take-at, drop-at, set-at, take-length, length-take-le}
 use Rattle.elimination.specs.Basis.{empty}
 use Rattle.tableau.specs.Packed.{rows, triangle}
-use Rattle.tableau.proofs.Packed.{triangle-front, clear-next}
+use Rattle.tableau.proofs.Packed.{triangle-front, clear-next, length-zeros}
 
 pub record Cleared (m k w : ℕ) (b : List ℕ) (at left : ℕ) : Type 0 where
   pub size : length b ≡ at + triangle left (left + k)
   pub zeros : drop at b ≡ replicate (triangle left (left + k)) 0
   pub finish : (x : List ℕ) → rows left (left + k) x ≡ empty m k left → rows w (w + k) (take at b ++ x) ≡ empty m k w
 
-pub cleared-start : (m k w : ℕ) (b : List ℕ) → length b ≡ triangle w (w + k) → b ≡ replicate (length b) 0 → Cleared m k w b 0 w
-cleared-start m k w b h e = record { size = omega arith; zeros = e ∙ ap (λ (n : ℕ). replicate n 0) h; finish = λ x f. f }
+pub cleared-start : (m k w : ℕ) (b : List ℕ) → b ≡ replicate (triangle w (w + k)) 0 → Cleared m k w b 0 w
+cleared-start m k w b e = record { size = omega (arith, length-zeros (triangle w (w + k)) e); zeros = e; finish = λ x f. f }
 
 triangle-suc : (v k : ℕ) → triangle (suc v) (suc v + k) ≡ suc (v + k) + triangle v (v + k)
 triangle-suc v k = let e : suc v + k ≡ suc (v + k) = omega arith in rw e

@@ -7,11 +7,12 @@
 --   triangle-mono    fewer and shorter rows are fewer numbers
 --   drop-row         what lies behind i rows, without the next one
 --   clear-next       a blank row in front of a cleared basis
+--   length-zeros     how many numbers zeros are
 use mathlib.Core.Path.{_≡_, refl, sym, ap, ap₂, _∙_}
 use mathlib.Core.List.{List, _∷_, _++_}
 use Prim.Native.Nat.{ℕ, zero, suc, pred, _+_, _-_, _<_, _≤_}
 use native.Mathlib.Omega.{arith}
-use lib.ListN.{length, take, drop, replicate}
+use lib.ListN.{length, take, drop, replicate, length-replicate}
 use lib.Seq.{take-at, drop-at, drop-drop, length-take-le}
 use Rattle.elimination.specs.Basis.{empty}
 use Rattle.tableau.specs.Packed.{rows, triangle}
@@ -66,3 +67,6 @@ clear-next m k (suc w) r x h g e f =
     let b : suc w + k - 1 ≡ w + k = omega arith in
     rows-behind (suc w) (suc w + k) r x h g
     ∙ (rw (e, a, b) (ap (λ (B : List (List ℕ)). (m ∷ replicate (w + k) 0) ∷ B) (rw a at f)))
+
+pub length-zeros : (t : ℕ) {s : List ℕ} → s ≡ replicate t 0 → length s ≡ t
+length-zeros t e = ap length e ∙ length-replicate t 0

@@ -1,7 +1,7 @@
 // The basis of a list of lines, built in a lent slice.
 ghost use mathlib.Core.Path.{_≡_};
 ghost use Prim.Native.Nat.{_+_, _<_, _≤_};
-ghost use lib.ListN.{length};
+ghost use lib.ListN.{length, replicate};
 ghost use Rattle.residue.specs.Inverse.{inverseOf};
 ghost use Rattle.equations.specs.Vectors.{Below};
 ghost use Rattle.elimination.specs.Basis.{empty, insert};
@@ -16,14 +16,13 @@ use crate::insertion::insert;
 use residue::modular::inverse_of;
 use residue::modular::negate;
 use slices::copying::copy;
-use slices::filling::zeros;
 
-// The basis of no equation, w columns and k carried ones: each row has the pivot m and holds nothing yet.
-pub fn clear(basis: &mut [u32], m: u32, w: usize, k: usize)
-    requires { ⌜ (w ≤ 17) × (k ≤ 16) × (length (now basis) ≡ triangle w (w + k)) ⌝ }
+// The basis of no equation, w columns and k carried ones: each row has the pivot m and holds nothing yet. What is lent is zeros, so
+// that the pivots alone are written.
+fn set_pivots(basis: &mut [u32], m: u32, w: usize, k: usize)
+    requires { ⌜ (w ≤ 17) × (k ≤ 16) × (now basis ≡ replicate (triangle w (w + k)) 0) ⌝ }
     ensures { λ _. ⌜ rows w (w + k) (now (basis .exit)) ≡ empty m k w ⌝ }
 {
-    zeros(basis);
     let mut at: usize = 0;
     let mut left = w;
     while left > 0 {
@@ -72,15 +71,15 @@ fn insert_line(
     insert(basis, &mut out[..len], m, inverse, n + 1);
 }
 
-// The basis of the lines that lie in `numbers`, n + 1 numbers each, put in one after the other.
+// The basis of the lines that lie in `numbers`, n + 1 numbers each, put in one after the other. What is lent is zeros.
 pub fn fill(basis: &mut [u32], numbers: &[u32], m: u32, n: usize, k: usize, plain: bool)
     requires { ⌜ Loadable plain m k × (n ≤ 16) × (k ≤ 16) ⌝ }
-    requires { ⌜ (length (now basis) ≡ triangle (n + 1) (n + 1 + k)) × Below m (now numbers) ⌝ }
+    requires { ⌜ (now basis ≡ replicate (triangle (n + 1) (n + 1 + k)) 0) × Below m (now numbers) ⌝ }
     ensures { λ _. ⌜ rows (n + 1) (n + 1 + k) (now (basis .exit))
         ≡ basisOf m (n + 1) k (linesOf plain m n k 0 (now (numbers .entry))) ⌝ }
     ensures { λ _. ⌜ Kept m (rows (n + 1) (n + 1 + k) (now (basis .exit))) ⌝ }
 {
-    clear(basis, m, n + 1, k);
+    set_pivots(basis, m, n + 1, k);
     let inverse = inverse_of(m);
     let width = n + 1;
     let mut rest = &numbers[..];
@@ -94,7 +93,7 @@ pub fn fill(basis: &mut [u32], numbers: &[u32], m: u32, n: usize, k: usize, plai
 
 // The tableau of the equations that lie in `lines`, n coefficients and a right side each, with k carried columns.
 pub fn build(basis: &mut [u32], lines: &[u32], m: u32, n: usize, k: usize)
-    requires { ⌜ (1 < m) × (n ≤ 16) × (k ≤ 16) × (length (now basis) ≡ triangle (n + 1) (n + 1 + k)) × Below m (now lines) ⌝ }
+    requires { ⌜ (1 < m) × (n ≤ 16) × (k ≤ 16) × (now basis ≡ replicate (triangle (n + 1) (n + 1 + k)) 0) × Below m (now lines) ⌝ }
     ensures { λ _. ⌜ rows (n + 1) (n + 1 + k) (now (basis .exit)) ≡ tableau m n k (equationsOf n (now (lines .entry))) ⌝ }
     ensures { λ _. ⌜ Kept m (rows (n + 1) (n + 1 + k) (now (basis .exit))) ⌝ }
 {

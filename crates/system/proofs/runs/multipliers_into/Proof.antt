@@ -13,7 +13,7 @@ use Rattle.elimination.specs.Multipliers.Row.{multipliers-row}
 use Rattle.elimination.specs.Tableau.{tableau}
 use Rattle.equations.specs.Lines.{equationsOf}
 use Rattle.tableau.specs.Packed.{rows, triangle}
-use Rattle.tableau.proofs.Packed.{triangle-front}
+use Rattle.tableau.proofs.Packed.{triangle-front, length-zeros}
 use Rattle.system.proofs.Rows.{carried-rows}
 use Rattle.equations.proofs.Lines.{length-equations, equations-few}
 use Rattle.system.proofs.runs.multipliers_into.Statement.{statement}
@@ -58,7 +58,10 @@ sub-at c =
     let z = c .before .before .before .before .before .before .before in
     let a = z .args in
     let b = c .before .before .build in
-    omega (arith, fits (a .m) (a .n) (a .k) (a .lines .now) (b .last .0) (z .pre .0 .1) (b .kept .0 ∙ z .pre .1 .0))
+    omega (
+      arith,
+      fits (a .m) (a .n) (a .k) (a .lines .now) (b .last .0) (z .pre .0 .1) (b .kept .0 ∙ length-zeros _ (z .pre .1 .0)),
+    )
 
 mul-copy : tie.Need-mul-copy
 mul-copy c = search needs
@@ -79,7 +82,7 @@ copy-requires c κs =
     let b = c .before .before .before .before .before .build in
     omega (
       arith,
-      long (a .m) (a .n) (a .k) (a .lines .now) (b .last .0) (z .pre .0 .1) (b .kept .0 ∙ z .pre .1 .0),
+      long (a .m) (a .n) (a .k) (a .lines .now) (b .last .0) (z .pre .0 .1) (b .kept .0 ∙ length-zeros _ (z .pre .1 .0)),
       z .pre .1 .1,
       z .pre .0 .1,
       equations-few (a .n) (a .lines .now) (z .pre .0 .0 .equations),
@@ -96,7 +99,7 @@ returns c =
     let z = c .before .before .before .before .before .before .before .before .before .before .before .before .before in
     let a = z .args in
     let b = c .before .before .before .before .before .before .before .before .build in
-    copied (a .m) (a .n) (a .k) (a .lines .now) (b .last .0) (z .pre .0 .1) (b .kept .0 ∙ z .pre .1 .0)
+    copied (a .m) (a .n) (a .k) (a .lines .now) (b .last .0) (z .pre .0 .1) (b .kept .0 ∙ length-zeros _ (z .pre .1 .0))
     (a .out .now) (c .before .before .copy .last .1 .0) (b .ensures .0) (c .before .before .copy .ensures)
 
 pub multipliers-into-spec : {M : Type 1} → statement M

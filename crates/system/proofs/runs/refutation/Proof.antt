@@ -1,5 +1,5 @@
--- `runs::refutation` meets its contract: the array that is taken holds every basis that it builds.
-use mathlib.Core.Path.{refl, sym, _∙_}
+-- `runs::refutation` meets its contract: the array that is taken is zeros, and holds every basis that it builds.
+use mathlib.Core.Path.{refl, sym}
 use mathlib.Core.List.{List}
 use Prim.Native.Nat.{ℕ, _+_, _/_, _≤_}
 use native.Mathlib.Omega.{arith}
@@ -10,6 +10,7 @@ use Rattle.tableau.proofs.Packed.{triangle-mono}
 use Rattle.system.specs.Posed.{Posed}
 use Rattle.equations.proofs.Lines.{equations-few}
 use borrow.Author.Needs.{needs}
+use Rattle.system.proofs.Fronts.{lent-zeros}
 use Rattle.system.proofs.runs.refutation.Statement.{statement}
 use Rattle.system.proofs.runs.refutation.Tie as tie
 
@@ -65,8 +66,7 @@ multipliers-into-requires c κs =
     let s = c .before .before .before .packed-size in (
       (z .pre .0, refl),
       (
-        length-take-le (s .result) (replicate 95 0)
-            (omega (arith, s .ensures, small (z .args .m) (z .args .n) (z .args .lines .now) (z .pre .0) (omega arith))) ∙ s .ensures,
+        lent-zeros _ 95 (s .result) (s .ensures) (small (z .args .m) (z .args .n) (z .args .lines .now) (z .pre .0) (omega arith)),
         z .pre .1,
       ),
     )
@@ -97,8 +97,7 @@ multipliers-into-requires-2 c κs =
     let s = c .before .before .before .packed-size in (
       (z .pre .0, refl),
       (
-        length-take-le (s .result) (replicate 425 0)
-            (omega (arith, s .ensures, large (z .args .m) (z .args .n) (z .args .lines .now) (z .pre .0))) ∙ s .ensures,
+        lent-zeros _ 425 (s .result) (s .ensures) (large (z .args .m) (z .args .n) (z .args .lines .now) (z .pre .0)),
         z .pre .1,
       ),
     )

@@ -1,5 +1,5 @@
--- `runs::solution` meets its contract: the array that is taken holds every basis that it builds.
-use mathlib.Core.Path.{sym, _∙_}
+-- `runs::solution` meets its contract: the array that is taken is zeros, and holds every basis that it builds.
+use mathlib.Core.Path.{sym}
 use Prim.Native.Nat.{ℕ, _+_, _≤_}
 use native.Mathlib.Omega.{arith}
 use lib.ListN.{replicate}
@@ -7,6 +7,7 @@ use lib.Seq.{length-take-le}
 use Rattle.tableau.specs.Packed.{triangle}
 use Rattle.tableau.proofs.Packed.{triangle-mono}
 use borrow.Author.Needs.{needs}
+use Rattle.system.proofs.Fronts.{lent-zeros}
 use Rattle.system.proofs.runs.solution.Statement.{statement}
 use Rattle.system.proofs.runs.solution.Tie as tie
 
@@ -44,7 +45,7 @@ solution-into-requires c κs =
     let z = c .before .before .before .before .before .before in
     let s = c .before .before .before .packed-size in (
       z .pre .0,
-      length-take-le (s .result) (replicate 15 0) (omega (arith, s .ensures, small (z .args .n) (omega arith))) ∙ s .ensures,
+      lent-zeros _ 15 (s .result) (s .ensures) (small (z .args .n) (omega arith)),
       z .pre .1,
     )
 
@@ -70,7 +71,7 @@ solution-into-requires-2 c κs =
     let z = c .before .before .before .before .before .before in
     let s = c .before .before .before .packed-size in (
       z .pre .0,
-      length-take-le (s .result) (replicate 153 0) (omega (arith, s .ensures, large (z .args .n) (z .pre .0 .unknowns))) ∙ s .ensures,
+      lent-zeros _ 153 (s .result) (s .ensures) (large (z .args .n) (z .pre .0 .unknowns)),
       z .pre .1,
     )
 

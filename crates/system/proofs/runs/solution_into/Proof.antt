@@ -11,6 +11,7 @@ use Rattle.elimination.specs.Basis.{pivot}
 use Rattle.elimination.specs.Tableau.{tableau}
 use Rattle.equations.specs.Lines.{equationsOf}
 use Rattle.tableau.specs.Packed.{rows, triangle, Kept}
+use Rattle.tableau.proofs.Packed.{length-zeros}
 use Rattle.system.specs.Posed.{Posed}
 use Rattle.system.specs.Model.Reading.{Readable, Laid, readVectors, answerVectors}
 use Rattle.system.proofs.Rows.{triangle-within}
@@ -65,7 +66,7 @@ pivot-at-requires c κs =
         arith,
         triangle-within (n + 1) n (n + 1) (omega arith) (omega arith),
         c .before .before .before .build .kept .0,
-        z .pre .1,
+        length-zeros (triangle (n + 1) (n + 1)) (z .pre .1),
       ),
     )
 
@@ -88,7 +89,7 @@ vectors-into-requires c κs =
     let z = c .before .before .before .before .before .before .before .before .before .before .before .before in
     let a = z .args in
     let b = c .before .before .before .before .before .before .before .build in (
-      readable (a .m) (a .n) (a .lines .now) (b .last .0) (z .pre .0) (b .kept .0 ∙ z .pre .1) (b .ensures .1),
+      readable (a .m) (a .n) (a .lines .now) (b .last .0) (z .pre .0) (b .kept .0 ∙ length-zeros _ (z .pre .1)) (b .ensures .1),
       z .pre .2,
     )
 

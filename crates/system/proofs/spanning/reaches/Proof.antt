@@ -7,7 +7,7 @@ use Rattle.elimination.specs.Basis.{basis}
 use Rattle.elimination.specs.Marking.{agree}
 use Rattle.tableau.specs.Packed.{rows}
 use Rattle.system.specs.Claims.{vectorsOf}
-use Rattle.system.proofs.Fronts.{front-within, front-length, front-size, front-fits, front-read}
+use Rattle.system.proofs.Fronts.{front-within, front-zeros, front-length, front-size, front-fits, front-read}
 use Rattle.system.proofs.spanning.reaches.Statement.{statement}
 use Rattle.system.proofs.spanning.reaches.Tie as tie
 
@@ -31,7 +31,7 @@ span-requires c κs =
     let n = c .before .before .before .before .args .n in
     let size = c .before .packed-size in
     let pre = c .before .before .before .before .pre in
-    (pre .0, pre .1, pre .2, front-length n (size .result) (omega arith) (size .ensures), pre .4)
+    (pre .0, pre .1, pre .2, front-zeros n (size .result) (omega arith) (size .ensures), pre .4)
 
 array-share-prefix-rows : tie.Need-array-share-prefix-rows
 array-share-prefix-rows c =

@@ -4,6 +4,7 @@ use mathlib.Core.List.{List}
 use Prim.Native.Nat.{ℕ, _+_}
 use native.Mathlib.Nat.{add-zero}
 use native.Mathlib.Omega.{arith}
+use lib.ListN.{replicate}
 use borrow.Author.Needs.{needs}
 use Rattle.elimination.specs.Basis.{basis}
 use Rattle.elimination.specs.Tableau.{tableau}
@@ -11,7 +12,7 @@ use Rattle.elimination.specs.Marking.{agree}
 use Rattle.equations.specs.Lines.{equationsOf}
 use Rattle.tableau.specs.Packed.{triangle}
 use Rattle.system.specs.Claims.{vectorsOf}
-use Rattle.system.proofs.Fronts.{front-within, front-length, front-size, front-fits, front-read, rows-alone}
+use Rattle.system.proofs.Fronts.{front-within, front-zeros, front-length, front-size, front-fits, front-read, rows-alone}
 use Rattle.system.proofs.spanning.reaches_all.Statement.{statement}
 use Rattle.system.proofs.spanning.reaches_all.Tie as tie
 
@@ -44,7 +45,8 @@ build-requires c κs =
       pre .modulus,
       pre .unknowns,
       omega arith,
-      front-length (n + 1) (size .result) (omega arith) (size .ensures) ∙ ap (triangle (n + 1)) (sym (add-zero (n + 1))),
+      front-zeros (n + 1) (size .result) (omega arith) (size .ensures)
+          ∙ ap (λ (l : ℕ). replicate (triangle (n + 1) l) 0) (sym (add-zero (n + 1))),
       pre .residues,
     )
 

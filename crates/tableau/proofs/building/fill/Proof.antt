@@ -7,6 +7,7 @@ use lib.ListN.{length}
 use lib.Seq.{length-take-le}
 use borrow.Author.Needs.{needs}
 use Rattle.equations.proofs.Vectors.{below-take}
+use Rattle.tableau.proofs.Packed.{length-zeros}
 use Rattle.tableau.proofs.Lines.{loadable-some}
 use Rattle.tableau.proofs.Filled.{Filled, filled-start, filled-next, filled-end}
 use Rattle.tableau.proofs.building.fill.Statement.{statement}
@@ -19,11 +20,11 @@ Inv-loop basis₀ numbers m n k plain inverse width rest₀ i₀ basis rest i =
 abbrev μ-loop : tie.MeasureT-loop
 μ-loop basis₀ numbers m n k plain inverse width rest₀ i₀ basis rest i = length rest
 
-add-clear : tie.Need-add-clear Inv-loop μ-loop
-add-clear c = search needs
+add-set-pivots : tie.Need-add-set-pivots Inv-loop μ-loop
+add-set-pivots c = search needs
 
-clear-requires : tie.Need-clear-requires Inv-loop μ-loop
-clear-requires c κs = search needs
+set-pivots-requires : tie.Need-set-pivots-requires Inv-loop μ-loop
+set-pivots-requires c κs = search needs
 
 inverse-of-requires : tie.Need-inverse-of-requires Inv-loop μ-loop
 inverse-of-requires c κs =
@@ -37,11 +38,11 @@ loop-holds : tie.Need-loop-holds Inv-loop μ-loop
 loop-holds c =
     let z = c .before .before .before .before .before .before .before in
     let a = z .args in
-    let o = c .before .before .before .clear in (
+    let o = c .before .before .before .set-pivots in (
       omega arith,
       search needs,
       filled-start (a .plain) (a .m) (a .n) (a .k) (a .numbers .now) (o .last .0) (z .pre .0 .0) (z .pre .1 .1)
-          (o .kept .0 ∙ z .pre .1 .0) (o .ensures),
+          (o .kept .0 ∙ length-zeros _ (z .pre .1 .0)) (o .ensures),
     )
 
 slice-aggregate-insert-line : tie.Need-slice-aggregate-insert-line Inv-loop μ-loop
@@ -108,8 +109,8 @@ fill-spec =
     (tie.spec
     Inv-loop
     μ-loop
-    add-clear
-    clear-requires
+    add-set-pivots
+    set-pivots-requires
     inverse-of-requires
     add-width
     loop-holds
