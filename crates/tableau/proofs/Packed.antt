@@ -8,7 +8,7 @@
 --   drop-row         what lies behind i rows, without the next one
 --   clear-next       a blank row in front of a cleared basis
 --   length-zeros     how many numbers zeros are
-use mathlib.Core.Path.{_≡_, refl, sym, ap, ap₂, _∙_}
+use mathlib.Core.Path.{_≡_, sym, ap, ap₂, _∙_}
 use mathlib.Core.List.{List, _∷_, _++_}
 use Prim.Native.Nat.{ℕ, zero, suc, pred, _+_, _-_, _<_, _≤_}
 use native.Mathlib.Omega.{arith}
