@@ -9,10 +9,11 @@ use Prim.Native.Nat.{ℕ}
 use native.Mathlib.Omega.{arith}
 use lib.Dec.{T}
 use lib.ListN.{length, drop}
-use Rattle.residue.specs.Congruence.{leastOf, solutionsOf, congruenceOf}
+use Rattle.residue.specs.Congruence.{leastOf, solutionsOf}
 use Rattle.residue.specs.Euclid.{euclid}
 use Rattle.residue.specs.Gcd.{gcd}
-use Rattle.residue.specs.declared.congruence.Solved.the-variants.{NoSolution, Solutions}
+use Rattle.congruence.specs.declared.Solved.the-variants.{NoSolution, Solutions}
+use Rattle.congruence.specs.Congruence.{congruenceOf}
 use Rattle.equations.specs.Equation.{Equation}
 use Rattle.equations.specs.Answer.{startOf, stepAt, stepsOf}
 use Rattle.equations.specs.Lines.{equationsOf}

@@ -2,15 +2,12 @@
 --   opens-any                 opening asks nothing of the ledger
 --   adds-unopened and so on   the calls that ask for an opened ledger get 4 of an unopened one
 --   accepted-yes              an accepted call's questions have the answer yes
---   within-range              the test of a modulus or of a number of unknowns says that it lies in its range
 use mathlib.Core.Path.{_≡_, refl}
-use mathlib.Core.Logic.{_↔_}
-use mathlib.Core.Bool.{false, _&&_}
+use mathlib.Core.Bool.{false}
 use mathlib.Core.List.{List}
-use Prim.Native.Nat.{ℕ, _≤_}
-use lib.Dec.{T, leb, leb→le, le→leb}
-use mir.Facts.{and-yes, yes-and}
-use Rattle.residue.proofs.Questions.{numbered, AllYes, all-yes}
+use Prim.Native.Nat.{ℕ}
+use lib.Dec.{T}
+use Rattle.questions.proofs.Questions.{numbered, AllYes, all-yes}
 use Rattle.ledger.specs.Ledger.{Ledger, unopened, isOpened}
 use Rattle.ledger.specs.Calls.{Call, opens, adds, strikes, answers, marks, strikesFromTape, answersFromTape, meaningless}
 use Rattle.ledger.specs.Questions.{questions, refusalOf}
@@ -58,9 +55,3 @@ numbered-always l (meaningless w) = tt
 pub accepted-yes : (l : Ledger) (c : Call) → refusalOf l c ≡ 0 → AllYes (questions l c)
 unfolding refusalOf
 accepted-yes l c none = all-yes (questions l c) (numbered-always l c) none
-
-pub within-range : (low k high : ℕ) → T (leb low k && leb k high) ↔ ((low ≤ k) × (k ≤ high))
-within-range low k high = (
-  (λ t. let b = and-yes (leb low k) (leb k high) t in (leb→le low k (b .0), leb→le k high (b .1))),
-  λ b. yes-and (leb low k) (leb k high) (le→leb low k (b .0)) (le→leb k high (b .1)),
-)

@@ -6,7 +6,8 @@ use native.Mathlib.Omega.{arith}
 use lib.Dec.{ltb→lt}
 use lib.ListN.{length, take, length-append, length-map}
 use lib.Seq.{length-take-le}
-use Rattle.residue.specs.Questions.{largestModulus}
+use Rattle.questions.specs.Questions.{largestModulus}
+use Rattle.questions.proofs.Questions.{within-range}
 use Rattle.equations.specs.Vectors.{Below}
 use Rattle.equations.specs.Equation.{Equation}
 use Rattle.equations.proofs.Truth.{true-of}
@@ -20,7 +21,7 @@ use Rattle.ledger.specs.Questions.{refusalOf}
 use Rattle.ledger.specs.Allowed.{Residues, Allowed}
 use Rattle.ledger.specs.History.{entered, extended, shortened, ledger}
 use Rattle.ledger.proofs.Shapes.{equation-length}
-use Rattle.ledger.proofs.Questions.{accepted-yes, within-range}
+use Rattle.ledger.proofs.Questions.{accepted-yes}
 use Rattle.ledger.proofs.History.{ledger-keeps}
 
 residues-snoc : (m : ℕ) (es : List Equation) (e : Equation) → Residues m es → Below m (e .coefficients) → e .right < m

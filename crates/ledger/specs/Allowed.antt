@@ -2,7 +2,7 @@
 use mathlib.Core.List.{List, [], _∷_}
 use Prim.Native.Nat.{ℕ, _<_, _≤_}
 use lib.ListN.{length}
-use Rattle.residue.specs.Questions.{largestModulus}
+use Rattle.questions.specs.Questions.{largestModulus}
 use Rattle.equations.specs.Vectors.{Below}
 use Rattle.equations.specs.Equation.{Equation, Shaped}
 use Rattle.ledger.specs.Ledger.{mostEquations, mostUnknowns}

@@ -5,7 +5,7 @@ use mathlib.Core.List.{List, [], _∷_}
 use Prim.Native.Nat.{ℕ}
 use lib.Dec.{eqb, leb, ltb}
 use lib.ListN.{length}
-use Rattle.residue.specs.Questions.{Question, asks, firstNo, allowedModulus}
+use Rattle.questions.specs.Questions.{Question, asks, firstNo, allowedModulus}
 use Rattle.equations.specs.Multipliers.{allBelow}
 use Rattle.words.specs.Words.{numberOf, numbersOf}
 use Rattle.ledger.specs.Ledger.{Ledger, isOpened, modulusOf, unknownsOf, equationsIn, mostEquations, mostUnknowns}

@@ -10,8 +10,8 @@ use borrow.Author.Tests.{le-leb}
 use lib.Dec.{eqb→eq, leb, leb→le}
 use mir.Facts.{and-yes}
 use lib.ListN.{length, drop}
-use Rattle.residue.specs.Questions.{firstNo}
-use Rattle.residue.proofs.Questions.{all-yes}
+use Rattle.questions.specs.Questions.{firstNo}
+use Rattle.questions.proofs.Questions.{all-yes}
 use Rattle.equations.proofs.Vectors.{all-below}
 use Rattle.system.specs.Posed.{Posed}
 use Rattle.milebadger.specs.Calls.{largestNumber, solveQuestions}

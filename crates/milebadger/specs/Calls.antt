@@ -6,10 +6,10 @@ use lib.Dec.{eqb, leb}
 use lib.IntN.{ℤ, pos, negℤ}
 use lib.ListN.{length}
 use Rattle.residue.specs.Chain.{chainOf}
-use Rattle.residue.specs.Congruence.{congruenceOf}
-use Rattle.residue.specs.Questions.{Question, asks, firstNo, unlessRefused}
-use Rattle.residue.specs.declared.congruence.Solved.{Solved}
-use Rattle.residue.specs.declared.congruence.Solved.the-variants.{Refused, NoSolution, Solutions}
+use Rattle.questions.specs.Questions.{Question, asks, firstNo, unlessRefused}
+use Rattle.congruence.specs.declared.Solved.{Solved}
+use Rattle.congruence.specs.declared.Solved.the-variants.{Refused, NoSolution, Solutions}
+use Rattle.congruence.specs.Congruence.{congruenceOf}
 use Rattle.equations.specs.Lines.{equationsOf}
 use Rattle.equations.specs.Multipliers.{allBelow}
 use Rattle.system.specs.Block.{blockOf}

@@ -1,6 +1,6 @@
 // The questions that milebadger_solve asks of its arguments.
 ghost use mathlib.Core.Path.{_≡_};
-ghost use Rattle.residue.specs.Questions.{firstNo};
+ghost use Rattle.questions.specs.Questions.{firstNo};
 ghost use Rattle.milebadger.specs.Calls.{solveQuestions};
 use system::residues::all_below;
 

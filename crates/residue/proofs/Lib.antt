@@ -1,6 +1,6 @@
 -- Laws about the definitions in specs/, for every crate above.
 -- The kit over any modulus: Congruent, Divides, Negative. Euclid's chain: Induction, Bezout, Columns, Gcd, Lame.
--- A reciprocal and a product without a division, and a remainder without a test: Inverse, Shoup, Masked. Every call's questions: Questions.
+-- A reciprocal and a product without a division, and a remainder without a test: Inverse, Shoup, Masked.
 -- One congruence: First, Solutions. What specs/Promises.antt promises: Promises.
 pub mod Congruent
 pub mod Divides
@@ -13,7 +13,6 @@ pub mod Lame
 pub mod Inverse
 pub mod Shoup
 pub mod Masked
-pub mod Questions
 pub mod First
 pub mod Solutions
 pub mod Promises

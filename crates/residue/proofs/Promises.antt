@@ -7,7 +7,7 @@ use Rattle.residue.specs.Bezout.{cofactors}
 use Rattle.residue.specs.Gcd.{gcd}
 use Rattle.residue.specs.Congruence.{solutionsOf}
 use Rattle.residue.specs.Promises.{GreatestDivisor, ShortChain, NoneByDivisor, NoneExactly, Describes, LeastAndSpacing}
-use Rattle.residue.specs.declared.congruence.Solved.the-variants.{NoSolution}
+use Rattle.residue.specs.declared.congruence.Solutions.the-variants.{NoSolution}
 use Rattle.residue.proofs.Divides.{divides-of-remainder, remainder-of-divides}
 use Rattle.residue.proofs.Gcd.{gcd-divides-left, gcd-divides-right, gcd-greatest}
 use Rattle.residue.proofs.Lame.{lame}

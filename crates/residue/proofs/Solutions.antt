@@ -17,7 +17,7 @@ use Rattle.residue.specs.Bezout.{cofactors}
 use Rattle.residue.specs.Gcd.{gcd}
 use Rattle.residue.specs.Promises.{Describes}
 use Rattle.residue.specs.Congruence.{leastOf, solvesCongruence, solutionsOf}
-use Rattle.residue.specs.declared.congruence.Solved.the-variants.{NoSolution, Solutions}
+use Rattle.residue.specs.declared.congruence.Solutions.the-variants.{NoSolution, Spaced}
 use Rattle.residue.proofs.Bezout.{cofactors-bezout}
 use Rattle.residue.proofs.Congruent.{congruent-of, congruent-of-eq, congruent-refl, congruent-sym, congruent-trans, congruent-mul, congruent-mod, congruent-scale, congruent-unscale, congruent-down}
 use Rattle.residue.proofs.Divides.{factor-positive, divides-le, divides-congruent, divides-mul}
@@ -106,7 +106,7 @@ module _ (a b m : ℕ) (pos : 0 < m) (divided : b % gcd a m ≡ 0) where
   quotient-of : b ≡ gcd a m * (b / gcd a m)
   quotient-of = omega (arith, div-add-mod b (gcd a m))
 
-  pub solutions-are : solutionsOf a b m ≡ Solutions (cofactors m a m .s * (b / gcd a m) % (m / gcd a m)) (m / gcd a m)
+  pub solutions-are : solutionsOf a b m ≡ Spaced (cofactors m a m .s * (b / gcd a m) % (m / gcd a m)) (m / gcd a m)
   unfolding solutionsOf
   solutions-are =
       let z = cofactors-bezout m a m pos in

@@ -3,9 +3,8 @@ use mathlib.Core.Bool.{Bool, cond}
 use Prim.Native.Nat.{ℕ, zero, suc, _*_, _/_, _%_}
 use lib.Dec.{eqb}
 use Rattle.residue.specs.Gcd.{gcd}
-use Rattle.residue.specs.Questions.{firstNo, unlessRefused, congruenceQuestions}
-use Rattle.residue.specs.declared.congruence.Solved.{Solved}
-use Rattle.residue.specs.declared.congruence.Solved.the-variants.{Refused, NoSolution, Solutions}
+use Rattle.residue.specs.declared.congruence.Solutions.{Solutions}
+use Rattle.residue.specs.declared.congruence.Solutions.the-variants.{NoSolution, Spaced}
 
 -- whether a·t = b mod m
 abbrev pub solvesCongruence : ℕ → ℕ → ℕ → ℕ → Bool
@@ -21,9 +20,5 @@ unfoldable pub leastOf : ℕ → ℕ → ℕ → ℕ
 leastOf a b m = firstFrom (solvesCongruence a b m) 0 m
 
 -- "with g = gcd(a,m), none exactly when g does not divide b; otherwise the least t, and the spacing m/g"
-unfoldable pub solutionsOf : ℕ → ℕ → ℕ → Solved
-solutionsOf a b m = cond (eqb (b % gcd a m) 0) (Solutions (leastOf a b m) (m / gcd a m)) NoSolution
-
--- the number of the question that turns the congruence away, and else its solutions
-unfoldable pub congruenceOf : ℕ → ℕ → ℕ → Solved
-congruenceOf a b m = unlessRefused Refused (firstNo (congruenceQuestions a b m)) (solutionsOf a b m)
+unfoldable pub solutionsOf : ℕ → ℕ → ℕ → Solutions
+solutionsOf a b m = cond (eqb (b % gcd a m) 0) (Spaced (leastOf a b m) (m / gcd a m)) NoSolution

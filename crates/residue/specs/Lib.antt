@@ -1,5 +1,5 @@
 -- Read in this order: Congruent, Divides, Negative, Euclid, Gcd, Digits, Chain, Bezout,
--- Cofactors, Inverse, Questions, Congruence, Promises.
+-- Cofactors, Inverse, Congruence, Promises.
 pub mod Congruent
 pub mod Divides
 pub mod Negative
@@ -10,6 +10,5 @@ pub mod Chain
 pub mod Bezout
 pub mod Cofactors
 pub mod Inverse
-pub mod Questions
 pub mod Congruence
 pub mod Promises

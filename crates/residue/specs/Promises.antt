@@ -8,7 +8,7 @@ use Rattle.residue.specs.Divides.{Divides}
 use Rattle.residue.specs.Digits.{digits}
 use Rattle.residue.specs.Gcd.{gcd, divisions}
 use Rattle.residue.specs.Congruence.{solutionsOf}
-use Rattle.residue.specs.declared.congruence.Solved.the-variants.{NoSolution, Solutions}
+use Rattle.residue.specs.declared.congruence.Solutions.the-variants.{NoSolution, Spaced}
 
 -- "Euclid's chain reports the textbook's divisor": it divides both numbers, and every common divisor divides it
 abbrev pub GreatestDivisor : Type 0
@@ -38,4 +38,4 @@ pub record Describes (a b m t spacing : ℕ) : Type 0 where
 
 -- "otherwise the least t, and the spacing m/g"
 abbrev pub LeastAndSpacing : Type 0
-LeastAndSpacing = (a b m t spacing : ℕ) → 0 < m → solutionsOf a b m ≡ Solutions t spacing → Describes a b m t spacing
+LeastAndSpacing = (a b m t spacing : ℕ) → 0 < m → solutionsOf a b m ≡ Spaced t spacing → Describes a b m t spacing

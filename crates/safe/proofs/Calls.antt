@@ -17,8 +17,8 @@ use lib.Dec.{eqb}
 use lib.ListN.{length}
 use borrow.Author.Tests.{eqb-true, eq-eqb, ne-eqb, le-leb, lt-leb}
 use Rattle.slices.specs.Over.{over}
-use Rattle.residue.specs.Questions.{asks, firstNo, unlessRefused, largestModulus}
-use Rattle.residue.proofs.Questions.{first-no-append}
+use Rattle.questions.specs.Questions.{asks, firstNo, unlessRefused, largestModulus}
+use Rattle.questions.proofs.Questions.{first-no-append}
 use Rattle.equations.specs.Vectors.{Below}
 use Rattle.equations.proofs.Truth.{true-or-false}
 use Rattle.equations.proofs.Vectors.{vector-length, vector-below, below-mono}

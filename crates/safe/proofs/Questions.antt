@@ -1,8 +1,7 @@
 -- The questions about a safe, and what is known of one that they let in.
 --   size-allowed        what the question of the size says
---   modulus-allowed     the question of the modulus has the answer yes
 --   Accepted, accepted  what is known where none of the first four turns the safe away
-use mathlib.Core.Bool.{true, _&&_}
+use mathlib.Core.Bool.{_&&_}
 use mathlib.Core.List.{List}
 use mathlib.Core.Path.{_≡_, sym, _∙_}
 use Prim.Native.Nat.{ℕ, _*_, _≤_, _<_}
@@ -11,9 +10,8 @@ use native.Mathlib.Omega.{arith}
 use lib.Dec.{T, leb, leb→le}
 use lib.ListN.{length, replicate, length-replicate}
 use mir.Facts.{and-yes}
-use borrow.Author.Tests.{le-leb}
-use Rattle.residue.specs.Questions.{firstNo, allowedModulus, largestModulus}
-use Rattle.residue.proofs.Questions.{all-yes}
+use Rattle.questions.specs.Questions.{firstNo, largestModulus}
+use Rattle.questions.proofs.Questions.{all-yes, within-range}
 use Rattle.equations.proofs.Truth.{true-of}
 use Rattle.equations.proofs.Vectors.{all-below}
 use Rattle.words.specs.Words.{entryKind, numbersOf, haveKinds}
@@ -28,9 +26,6 @@ size-allowed rows columns t =
     let b = and-yes (leb 1 rows) (leb 1 columns) (a .0) in
     (leb→le 1 rows (b .0), leb→le 1 columns (b .1), leb→le (rows * columns) mostLocks (a .1))
 
-pub modulus-allowed : (m : ℕ) → 2 ≤ m → m ≤ largestModulus → allowedModulus m ≡ true
-modulus-allowed m two largest = rw (le-leb 2 m two) (le-leb m largestModulus largest)
-
 -- what is known where no question about the arguments turns the safe away
 pub record Accepted (m rows columns : ℕ) (values : List ℕ) : Type 0 where
   pub lockable : Lockable m columns values
@@ -41,9 +36,9 @@ pub accepted : (m rows columns : ℕ) (values : List ℕ) → firstNo (argumentQ
     → Accepted m rows columns values
 accepted m rows columns values none =
     let yes = all-yes (argumentQuestions m rows columns values) tt none in
-    let modulus = and-yes (leb 2 m) (leb m largestModulus) (yes .0) in
+    let modulus = within-range 2 m largestModulus .0 (yes .0) in
     let size = size-allowed rows columns (yes .1 .0) in
-    let two = leb→le 2 m (modulus .0) in
+    let two = modulus .0 in
     let some : 0 < rows * columns = mul-pos (omega arith) (omega arith) in
     let kinds = replicate (rows * columns) entryKind in
     let count : rows * columns ≡ length values =
@@ -57,6 +52,6 @@ accepted m rows columns values none =
         few = omega arith;
         residues = all-below m (numbersOf values) .0 (yes .1 .1 .1 .0);
       };
-      largest = leb→le m largestModulus (modulus .1);
+      largest = modulus .1;
       count = count;
     }

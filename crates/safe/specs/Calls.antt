@@ -6,7 +6,7 @@ use Prim.Native.Nat.{ℕ, _*_}
 use lib.Dec.{leb}
 use lib.ListN.{length, replicate}
 use Rattle.slices.specs.Over.{over}
-use Rattle.residue.specs.Questions.{Question, asks, firstNo, unlessRefused, allowedModulus}
+use Rattle.questions.specs.Questions.{Question, asks, firstNo, unlessRefused, allowedModulus}
 use Rattle.equations.specs.Multipliers.{allBelow}
 use Rattle.words.specs.Words.{entryKind, numbersOf, wordsOf, haveKinds}
 use Rattle.safe.specs.declared.Turned.{Turned}

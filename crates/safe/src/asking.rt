@@ -1,8 +1,8 @@
 // The questions about a safe. The buffer's length is asked later, where the turns are known.
 ghost use mathlib.Core.Path.{_≡_};
-ghost use Rattle.residue.specs.Questions.{firstNo};
+ghost use Rattle.questions.specs.Questions.{firstNo};
 ghost use Rattle.safe.specs.Calls.{argumentQuestions, allowedSize};
-use residue::congruence::LARGEST_MODULUS;
+use questions::is_modulus;
 use words::reading::numbers_below;
 use words::reading::run_of;
 
@@ -10,10 +10,7 @@ use words::reading::run_of;
 pub(crate) fn refusal(m: u32, rows: u32, columns: u32, values: &[u32]) -> u32
     ensures { λ r. ⌜ r ≡ firstNo (argumentQuestions m rows columns (now (values .entry))) ⌝ }
 {
-    if m < 2 {
-        return 2;
-    }
-    if m > LARGEST_MODULUS {
+    if !is_modulus(m) {
         return 2;
     }
     if !allowed_size(rows, columns) {

@@ -10,7 +10,7 @@ use Prim.Native.Nat.{ℕ, _<_, _≤_}
 use lib.Dec.{ltb}
 use lib.ListN.{length}
 use borrow.Author.Tests.{le-leb, lt-leb, eq-eqb}
-use Rattle.residue.specs.Questions.{asks, firstNo, allowedModulus}
+use Rattle.questions.specs.Questions.{asks, firstNo, allowedModulus}
 use Rattle.equations.specs.Multipliers.{allBelow}
 use Rattle.equations.specs.Lines.{equationsOf}
 use Rattle.words.specs.Words.{numbersOf}

@@ -15,7 +15,7 @@ use lib.Seq.{length-take-le}
 use borrow.Author.Tests.{eq-eqb, ne-eqb}
 use Rattle.slices.specs.Over.{over}
 use Rattle.slices.proofs.Parts.{lent-is, put-back-is}
-use Rattle.residue.proofs.Questions.{AllYes}
+use Rattle.questions.proofs.Questions.{AllYes}
 use Rattle.equations.proofs.Truth.{true-of}
 use Rattle.words.specs.Words.{numbersOf}
 use Rattle.ledger.specs.Ledger.{Ledger, unopened, isOpened, unknownsOf, equationsIn, mostEquations}

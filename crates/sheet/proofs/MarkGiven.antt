@@ -14,7 +14,7 @@ use lib.ListN.{length, take, length-map}
 use Rattle.slices.specs.Over.{over}
 use Rattle.slices.proofs.Parts.{lent, lent-is, lent-length}
 use Rattle.slices.proofs.Over.{over-front}
-use Rattle.residue.proofs.Questions.{AllYes}
+use Rattle.questions.proofs.Questions.{AllYes}
 use Rattle.equations.specs.Lines.{equationsOf}
 use Rattle.equations.specs.Claim.{passes}
 use Rattle.system.specs.Claims.{Claimed, claimOf}

@@ -16,7 +16,8 @@ use lib.Dec.{T, eqb, leb, leb→le, le→leb, eqb→eq}
 use lib.ListN.{length}
 use lib.Seq.{length-take-le}
 use mir.Facts.{and-yes, yes-and, yes-eqb}
-use Rattle.residue.specs.Questions.{allowedModulus, largestModulus}
+use Rattle.questions.specs.Questions.{allowedModulus, largestModulus}
+use Rattle.questions.proofs.Questions.{within-range}
 use Rattle.equations.specs.Vectors.{Below}
 use Rattle.equations.specs.Multipliers.{allBelow}
 use Rattle.equations.specs.Lines.{equationsOf}
@@ -26,7 +27,6 @@ use Rattle.system.specs.Posed.{Posed}
 use Rattle.equations.proofs.Lines.{equations-count}
 use Rattle.ledger.specs.Ledger.{Ledger, unopened, opened, isOpened, equationsIn, mostEquations, mostUnknowns}
 use Rattle.ledger.specs.Questions.{allowedUnknowns}
-use Rattle.ledger.proofs.Questions.{within-range}
 use Rattle.sheet.specs.declared.Sheet.{Sheet}
 use Rattle.sheet.specs.Record.{room, filled, linesIn, readable, ledgerOf}
 

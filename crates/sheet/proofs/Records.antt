@@ -11,7 +11,8 @@ use native.Mathlib.Omega.{arith}
 use lib.Dec.{T}
 use lib.ListN.{length, take, drop, replicate, length-append, length-drop, length-map, length-replicate}
 use lib.Seq.{take-at, take-take}
-use Rattle.residue.specs.Questions.{allowedModulus, largestModulus}
+use Rattle.questions.specs.Questions.{allowedModulus, largestModulus}
+use Rattle.questions.proofs.Questions.{within-range}
 use Rattle.equations.specs.Vectors.{Below}
 use Rattle.equations.specs.Equation.{Equation}
 use Rattle.equations.specs.Multipliers.{allBelow}
@@ -22,7 +23,6 @@ use Rattle.words.specs.Words.{numberOf, numbersOf}
 use Rattle.ledger.specs.Ledger.{opened, mostEquations, mostUnknowns}
 use Rattle.ledger.specs.Questions.{allowedUnknowns}
 use Rattle.ledger.specs.History.{shortened}
-use Rattle.ledger.proofs.Questions.{within-range}
 use Rattle.sheet.specs.declared.Sheet.{Sheet}
 use Rattle.sheet.specs.Record.{room, filled, linesIn, ledgerOf, withEquation, withoutLast}
 use Rattle.sheet.proofs.Reading.{Fit, fit-readable, length-lines, ledger-opened}

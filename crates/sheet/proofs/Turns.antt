@@ -12,7 +12,7 @@ use lib.ListN.{length}
 use Rattle.equations.specs.Lines.{equationsOf}
 use Rattle.equations.proofs.Truth.{true-of}
 use Rattle.equations.proofs.Lines.{equations-count}
-use Rattle.residue.proofs.Questions.{AllYes}
+use Rattle.questions.proofs.Questions.{AllYes}
 use Rattle.ledger.specs.Ledger.{Ledger, mostEquations}
 use Rattle.ledger.specs.Shapes.{numberAt, isEquation}
 use Rattle.ledger.specs.Calls.{Call, opens, adds, strikes, answers, marks, strikesFromTape, answersFromTape, meaningless}

@@ -5,7 +5,7 @@ use mathlib.Core.List.{List}
 use Prim.Native.Nat.{ℕ}
 use lib.ListN.{length}
 use Rattle.slices.specs.Over.{over}
-use Rattle.residue.specs.Questions.{unlessRefused}
+use Rattle.questions.specs.Questions.{unlessRefused}
 use Rattle.ledger.specs.Ledger.{Ledger, equationsIn}
 use Rattle.ledger.specs.Block.{answerWords}
 use Rattle.ledger.specs.Marking.{claimPasses}

@@ -13,7 +13,7 @@ use Prim.Native.Nat.{ℕ, suc, _<_, _≤_}
 use lib.Dec.{T}
 use lib.ListN.{length, take, getD}
 use Rattle.slices.specs.Over.{over}
-use Rattle.residue.specs.Questions.{unlessRefused}
+use Rattle.questions.specs.Questions.{unlessRefused}
 use Rattle.equations.specs.Vectors.{Vector}
 use Rattle.equations.specs.Equation.{Equation, solves}
 use Rattle.equations.specs.Answer.{startOf, stepsOf}

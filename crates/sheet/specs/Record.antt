@@ -5,7 +5,7 @@ use Prim.Native.Nat.{ℕ, _+_, _-_, _*_}
 use lib.Dec.{eqb, leb}
 use lib.ListN.{length, take, drop, replicate}
 use Rattle.slices.specs.Over.{over}
-use Rattle.residue.specs.Questions.{allowedModulus}
+use Rattle.questions.specs.Questions.{allowedModulus}
 use Rattle.equations.specs.Lines.{equationsOf}
 use Rattle.equations.specs.Multipliers.{allBelow}
 use Rattle.words.specs.Words.{numbersOf}

@@ -1,6 +1,5 @@
 // The questions that each call asks: the number of the first whose answer is no, or 0 where the call is accepted.
 ghost use mathlib.Core.Path.{_≡_};
-ghost use Rattle.residue.specs.Questions.{allowedModulus};
 ghost use Rattle.ledger.specs.Calls.{opens, adds, strikes, marks, strikesFromTape, answersFromTape};
 ghost use Rattle.ledger.specs.Ledger.{unopened, isOpened};
 ghost use Rattle.ledger.specs.Questions.{refusalOf, allowedUnknowns};
@@ -9,7 +8,7 @@ use crate::Sheet;
 use crate::shapes::is_claim;
 use crate::shapes::is_equation;
 use crate::shapes::is_opening;
-use residue::congruence::LARGEST_MODULUS;
+use questions::is_modulus;
 use system::residues::all_below;
 use words::reading::number;
 use words::reading::numbers_below;
@@ -33,12 +32,6 @@ pub(crate) fn is_opened(sheet: Sheet) -> bool
     let cells = sheet.cells;
     let filled = held * (n + 1);
     all_below(m, &cells[..filled])
-}
-
-fn is_modulus(m: u32) -> bool
-    ensures { λ r. ⌜ r ≡ allowedModulus m ⌝ }
-{
-    2 <= m && m <= LARGEST_MODULUS
 }
 
 fn are_unknowns(n: usize) -> bool

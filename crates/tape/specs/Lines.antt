@@ -4,7 +4,7 @@ use mathlib.Core.List.{List, [], _∷_, _++_}
 use Prim.Native.Nat.{ℕ, zero, suc, _%_}
 use lib.Dec.{eqb, leb}
 use lib.ListN.{length, take, drop}
-use Rattle.residue.specs.Questions.{unlessRefused}
+use Rattle.questions.specs.Questions.{unlessRefused}
 use Rattle.system.specs.Block.{blockOf}
 use Rattle.system.specs.Claims.{vectorsWithin}
 use Rattle.ledger.specs.Ledger.{Ledger, unopened, modulusOf, unknownsOf, equationsIn}

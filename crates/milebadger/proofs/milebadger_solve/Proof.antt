@@ -10,7 +10,7 @@ use borrow.Author.Tests.{eq-eqb, ne-eqb}
 use denote.Ref.{now}
 use lib.ListN.{take}
 use lib.Seq.{length-take-le}
-use Rattle.residue.specs.Questions.{firstNo}
+use Rattle.questions.specs.Questions.{firstNo}
 use Rattle.equations.specs.Lines.{equationsOf}
 use Rattle.system.specs.Block.{blockOf}
 use Rattle.milebadger.specs.Reply.{refuses}

@@ -9,7 +9,7 @@ use borrow.Author.Needs.{needs}
 use denote.Ref.{now}
 use lib.ListN.{length, take}
 use lib.Seq.{length-take-le}
-use Rattle.residue.specs.Questions.{firstNo}
+use Rattle.questions.specs.Questions.{firstNo}
 use Rattle.equations.specs.Vectors.{Below}
 use Rattle.words.specs.Words.{numbersOfAKind, numbersOf}
 use Rattle.safe.specs.declared.Turned.the-variants.{Wrote}

@@ -1,48 +1,74 @@
--- `solve` meets its contract: `refusal` asks the questions, and where none turns the congruence away, m is at least 2.
-use mathlib.Core.Path.{_≡_, sym, _∙_}
-use Prim.Native.Nat.{ℕ, _≤_}
+-- `solve` meets its contract: the numbers that it computes are those of the laws `solutions-are` and `solutions-none`.
+use mathlib.Core.Path.{_≡_, sym, ap}
+use Prim.Native.Nat.{ℕ, _*_, _/_, _%_, _<_}
+use native.Mathlib.Nat.{le-div-iff-mul-le}
 use native.Mathlib.Omega.{arith}
-use lib.Dec.{leb, leb→le}
-use mir.Facts.{and-yes}
-use borrow.Author.Tests.{eq-eqb, ne-eqb}
 use borrow.Author.Needs.{needs}
-use Rattle.residue.specs.Congruence.{solutionsOf, congruenceOf}
-use Rattle.residue.specs.Questions.{firstNo, congruenceQuestions, largestModulus}
-use Rattle.residue.specs.declared.congruence.Solved.the-variants.{Refused}
-use Rattle.residue.proofs.Questions.{all-yes}
+use Rattle.residue.specs.Cofactors.{bezoutOf}
+use Rattle.residue.specs.Congruence.{solutionsOf}
+use Rattle.residue.specs.Gcd.{gcd}
+use Rattle.residue.specs.declared.congruence.Solutions.the-variants.{NoSolution, Spaced}
+use Rattle.residue.specs.declared.extended.Bezout.{Bezout}
+use Rattle.residue.proofs.Gcd.{gcd-positive, gcd-le}
+use Rattle.residue.proofs.Solutions.{solutions-are, solutions-none}
 use Rattle.residue.proofs.congruence.solve.Statement.{statement}
 use Rattle.residue.proofs.congruence.solve.Tie as tie
 
-modulus-allowed : (a b m : ℕ) → firstNo (congruenceQuestions a b m) ≡ 0 → 2 ≤ m
-modulus-allowed a b m h =
-    leb→le 2 m (and-yes (leb 2 m) (leb m largestModulus) (all-yes (congruenceQuestions a b m) tt h .0) .0)
+module _ (a b m : ℕ) (z : Bezout) (pos : 0 < m) (is : z ≡ bezoutOf m a m) where
+  divisor : z .divisor ≡ gcd a m
+  unfolding bezoutOf
+  divisor = ap (λ (w : Bezout). w .divisor) is
 
-module _ (a b m number : ℕ) (is : number ≡ firstNo (congruenceQuestions a b m)) where
-  refused : (number ≡ 0 → ⊥) → Refused number ≡ congruenceOf a b m
-  unfolding congruenceOf
-  refused h = rw (← is, ne-eqb number 0 h)
+  divisor-positive : 0 < z .divisor
+  divisor-positive = rw divisor (gcd-positive a m (omega arith))
 
-  accepted : number ≡ 0 → solutionsOf a b m ≡ congruenceOf a b m
-  unfolding congruenceOf
-  accepted h = rw (← is, eq-eqb number 0 h)
+  spacing : z .p ≡ m / z .divisor
+  unfolding bezoutOf
+  spacing = rw is
 
-refusal-requires : tie.Need-refusal-requires
-refusal-requires c κs = search needs
+  spacing-positive : 0 < z .p
+  spacing-positive =
+      rw spacing
+      (le-div-iff-mul-le {k = z .divisor} {x = 1} {y = m} divisor-positive .1 (rw divisor (omega (arith, gcd-le a m pos))))
+
+  found-none : (b % z .divisor ≡ 0 → ⊥) → NoSolution ≡ solutionsOf a b m
+  found-none h = sym (solutions-none a b m (rw divisor at h))
+
+  found : (t : ℕ) → b % z .divisor ≡ 0 → t ≡ z .s * (b / z .divisor) % z .p → Spaced t (z .p) ≡ solutionsOf a b m
+  unfolding bezoutOf
+  found t h e = rw (e, is) (sym (solutions-are a b m pos (rw divisor at h)))
+
+cofactors-requires : tie.Need-cofactors-requires
+cofactors-requires c κs = search needs
+
+rem-if1 : tie.Need-rem-if1
+rem-if1 c =
+    let p = c .before .args in
+    divisor-positive (p .a) (p .b) (p .m) (c .cofactors .result) (omega arith) (c .cofactors .ensures .0)
 
 returns : tie.Need-returns
 returns c =
     let p = c .before .before .args in
-    refused (p .a) (p .b) (p .m) (c .before .refusal .result) (c .before .refusal .ensures) (λ (e : c .before .refusal .result ≡ 0). omega arith)
+    found-none (p .a) (p .b) (p .m) (c .before .cofactors .result) (omega arith) (c .before .cofactors .ensures .0)
+    (c .if1 .taken)
 
-solutions-requires : tie.Need-solutions-requires
-solutions-requires c κs =
+div-mul : tie.Need-div-mul
+div-mul c =
     let p = c .before .before .args in
-    omega (arith, modulus-allowed (p .a) (p .b) (p .m) (sym (c .before .refusal .ensures) ∙ omega arith))
+    divisor-positive (p .a) (p .b) (p .m) (c .before .cofactors .result) (omega arith) (c .before .cofactors .ensures .0)
+
+mul-requires : tie.Need-mul-requires
+mul-requires c κs =
+    let p = c .before .before .args in
+    omega (arith, spacing-positive (p .a) (p .b) (p .m) (c .before .cofactors .result) (omega arith) (c .before .cofactors .ensures .0))
 
 returns-2 : tie.Need-returns-2
 returns-2 c =
     let p = c .before .before .before .args in
-    c .solutions .ensures ∙ accepted (p .a) (p .b) (p .m) (c .before .before .refusal .result) (c .before .before .refusal .ensures) (omega arith)
+    found (p .a) (p .b) (p .m) (c .before .before .cofactors .result) (omega arith) (c .before .before .cofactors .ensures .0)
+    (c .mul .result) (omega arith) (c .mul .ensures .0)
 
 pub solve-spec : {M : Type 1} → statement M
-solve-spec = tie.close (tie.spec refusal-requires returns solutions-requires returns-2)
+solve-spec =
+    tie.close
+    (tie.spec cofactors-requires rem-if1 returns div-mul mul-requires returns-2)

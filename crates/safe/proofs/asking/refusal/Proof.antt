@@ -2,90 +2,87 @@
 use mathlib.Core.Path.{sym, _∙_}
 use native.Mathlib.Omega.{arith}
 use borrow.Author.Needs.{needs}
-use borrow.Author.Tests.{le-leb, lt-leb, not-true, not-false}
-use Rattle.residue.specs.Questions.{largestModulus}
+use borrow.Author.Tests.{not-true, not-false}
 use Rattle.equations.proofs.Truth.{of-true}
-use Rattle.safe.proofs.Questions.{size-allowed, modulus-allowed}
+use Rattle.safe.proofs.Questions.{size-allowed}
 use Rattle.safe.proofs.asking.refusal.Statement.{statement}
 use Rattle.safe.proofs.asking.refusal.Tie as tie
 
-returns : tie.Need-returns
-returns c = simp (lt-leb 2 (c .before .before .args .m) (omega arith))
+is-modulus-requires : tie.Need-is-modulus-requires
+is-modulus-requires c κs = search needs
 
-returns-2 : tie.Need-returns-2
-returns-2 c =
-    let p = c .before .before .before .args in
-    simp (le-leb 2 (p .m) (omega arith), lt-leb (p .m) largestModulus (omega arith))
+returns : tie.Need-returns
+returns c = rw (sym (c .before .is-modulus .ensures) ∙ not-true _ (c .if1 .taken))
 
 allowed-size-requires : tie.Need-allowed-size-requires
 allowed-size-requires c κs = search needs
 
-returns-3 : tie.Need-returns-3
-returns-3 c =
-    let p = c .before .before .before .before .before .args in
-    rw (modulus-allowed (p .m) (omega arith) (omega arith), sym (c .before .allowed-size .ensures) ∙ not-true _ (c .if3 .taken))
+returns-2 : tie.Need-returns-2
+returns-2 c =
+    rw (
+      sym (c .before .before .before .is-modulus .ensures) ∙ not-false _ (c .before .before .if1 .left),
+      sym (c .before .allowed-size .ensures) ∙ not-true _ (c .if2 .taken),
+    )
 
 mul-locks : tie.Need-mul-locks
 mul-locks c =
     let p = c .before .before .before .before .before .args in
-    let size = sym (c .before .allowed-size .ensures) ∙ not-false _ (c .if3 .left) in
+    let size = sym (c .before .allowed-size .ensures) ∙ not-false _ (c .if2 .left) in
     omega (arith, size-allowed (p .rows) (p .columns) (of-true size))
 
 cast-run-of : tie.Need-cast-run-of
 cast-run-of c =
     let p = c .before .before .before .before .before .args in
-    let size = sym (c .before .allowed-size .ensures) ∙ not-false _ (c .if3 .left) in
+    let size = sym (c .before .allowed-size .ensures) ∙ not-false _ (c .if2 .left) in
     omega (arith, size-allowed (p .rows) (p .columns) (of-true size))
 
 run-of-requires : tie.Need-run-of-requires
 run-of-requires c κs = search needs
 
-returns-4 : tie.Need-returns-4
-returns-4 c =
-    let p = c .before .before .before .before .before .before .before .args in
+returns-3 : tie.Need-returns-3
+returns-3 c =
+    let b = c .before .before in
     rw (
-      modulus-allowed (p .m) (omega arith) (omega arith),
-      sym (c .before .before .before .allowed-size .ensures) ∙ not-false _ (c .before .before .if3 .left),
-      sym (c .before .run-of .ensures) ∙ not-true _ (c .if4 .taken),
+      sym (b .before .before .before .is-modulus .ensures) ∙ not-false _ (b .before .before .if1 .left),
+      sym (b .before .allowed-size .ensures) ∙ not-false _ (b .if2 .left),
+      sym (c .before .run-of .ensures) ∙ not-true _ (c .if3 .taken),
     )
 
 numbers-below-requires : tie.Need-numbers-below-requires
 numbers-below-requires c κs = search needs
 
-returns-5 : tie.Need-returns-5
-returns-5 c =
-    let p = c .before .before .before .before .before .before .before .before .before .args in
-    let size = c .before .before .before .before .before .allowed-size in
+returns-4 : tie.Need-returns-4
+returns-4 c =
+    let b = c .before .before .before .before in
     rw (
-      modulus-allowed (p .m) (omega arith) (omega arith),
-      sym (size .ensures) ∙ not-false _ (c .before .before .before .before .if3 .left),
-      sym (c .before .before .before .run-of .ensures) ∙ not-false _ (c .before .before .if4 .left),
-      sym (c .before .numbers-below .ensures) ∙ not-true _ (c .if5 .taken),
+      sym (b .before .before .before .is-modulus .ensures) ∙ not-false _ (b .before .before .if1 .left),
+      sym (b .before .allowed-size .ensures) ∙ not-false _ (b .if2 .left),
+      sym (c .before .before .before .run-of .ensures) ∙ not-false _ (c .before .before .if3 .left),
+      sym (c .before .numbers-below .ensures) ∙ not-true _ (c .if4 .taken),
     )
 
-returns-6 : tie.Need-returns-6
-returns-6 c =
-    let p = c .before .before .before .before .before .before .before .before .before .args in
-    let size = c .before .before .before .before .before .allowed-size in
+returns-5 : tie.Need-returns-5
+returns-5 c =
+    let b = c .before .before .before .before in
     rw (
-      modulus-allowed (p .m) (omega arith) (omega arith),
-      sym (size .ensures) ∙ not-false _ (c .before .before .before .before .if3 .left),
-      sym (c .before .before .before .run-of .ensures) ∙ not-false _ (c .before .before .if4 .left),
-      sym (c .before .numbers-below .ensures) ∙ not-false _ (c .if5 .left),
+      sym (b .before .before .before .is-modulus .ensures) ∙ not-false _ (b .before .before .if1 .left),
+      sym (b .before .allowed-size .ensures) ∙ not-false _ (b .if2 .left),
+      sym (c .before .before .before .run-of .ensures) ∙ not-false _ (c .before .before .if3 .left),
+      sym (c .before .numbers-below .ensures) ∙ not-false _ (c .if4 .left),
     )
 
 pub refusal-spec : {M : Type 1} → statement M
 refusal-spec =
     tie.close
     (tie.spec
+    is-modulus-requires
     returns
-    returns-2
     allowed-size-requires
-    returns-3
+    returns-2
     mul-locks
     cast-run-of
     run-of-requires
-    returns-4
+    returns-3
     numbers-below-requires
-    returns-5
-    returns-6)
+    returns-4
+    returns-5)

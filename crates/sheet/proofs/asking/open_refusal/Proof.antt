@@ -4,7 +4,7 @@ use native.Mathlib.Omega.{arith}
 use borrow.Author.Needs.{needs}
 use borrow.Author.Tests.{not-true, not-false}
 use denote.Ref.{now}
-use Rattle.residue.specs.Questions.{allowedModulus}
+use Rattle.questions.specs.Questions.{allowedModulus}
 use Rattle.ledger.specs.Questions.{allowedUnknowns, refusalOf}
 use Rattle.ledger.proofs.Shapes.{opening-length}
 use Rattle.sheet.proofs.asking.open_refusal.Statement.{statement}

@@ -1,8 +1,8 @@
--- `asking::is_modulus` meets its contract: it makes both tests.
+-- `is_modulus` meets its contract: it makes both tests.
 use native.Mathlib.Omega.{arith}
 use borrow.Author.Tests.{le-leb, lt-leb}
-use Rattle.sheet.proofs.asking.is_modulus.Statement.{statement}
-use Rattle.sheet.proofs.asking.is_modulus.Tie as tie
+use Rattle.questions.proofs.is_modulus.Statement.{statement}
+use Rattle.questions.proofs.is_modulus.Tie as tie
 
 returns : tie.Need-returns
 returns c = rw (le-leb 2 (c .before .args .m) (omega arith))

@@ -1,15 +1,19 @@
--- Questions that turn nothing away: where none gives its number, each has the answer yes. And questions in two lists.
+-- Questions that turn nothing away: where none gives its number, each has the answer yes. Questions in two lists. And a question
+-- that asks for a range.
 --   numbered          no question has the number 0, which stands for none; a test, so that a list shows it by computing
 --   AllYes, all-yes   each question has the answer yes; so it is where none turns a call away
 --   first-no-append   the questions of a second list are asked where none of the first turns a call away
+--   within-range      the test of a modulus or of a number of unknowns says that it lies in its range
 use mathlib.Core.Path.{_≡_, refl}
+use mathlib.Core.Logic.{_↔_}
 use mathlib.Core.Bool.{Bool, true, false, cond, _&&_}
 use mathlib.Core.List.{List, [], _∷_, _++_}
+use Prim.Native.Nat.{ℕ, _≤_}
 use native.Mathlib.Omega.{arith}
-use lib.Dec.{T, ltb, ltb→lt}
-use mir.Facts.{and-yes}
+use lib.Dec.{T, leb, ltb, leb→le, le→leb, ltb→lt}
+use mir.Facts.{and-yes, yes-and}
 use borrow.Author.Tests.{ne-eqb}
-use Rattle.residue.specs.Questions.{Question, firstNo, unlessRefused}
+use Rattle.questions.specs.Questions.{Question, firstNo, unlessRefused}
 
 abbrev pub numbered : List Question → Bool
 numbered [] = true
@@ -42,3 +46,9 @@ first-no-append (q ∷ qs) rest numbers =
         ≡ unlessRefused (λ k. k) (cond test (firstNo qs) (q .number)) (firstNo rest)
     go true n h = h
     go false n h = rw (ne-eqb (q .number) 0 (λ e. omega (arith, ltb→lt 0 (q .number) n)))
+
+pub within-range : (low k high : ℕ) → T (leb low k && leb k high) ↔ ((low ≤ k) × (k ≤ high))
+within-range low k high = (
+  (λ t. let b = and-yes (leb low k) (leb k high) t in (leb→le low k (b .0), leb→le k high (b .1))),
+  λ b. yes-and (leb low k) (leb k high) (le→leb low k (b .0)) (le→leb k high (b .1)),
+)

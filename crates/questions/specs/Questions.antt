@@ -2,7 +2,7 @@
 use mathlib.Core.Bool.{Bool, cond, _&&_}
 use mathlib.Core.List.{List, [], _∷_}
 use Prim.Native.Nat.{ℕ}
-use lib.Dec.{eqb, leb, ltb}
+use lib.Dec.{eqb, leb}
 
 -- a question: its number, and whether the answer is yes
 pub record Question : Type 0 where
@@ -27,7 +27,3 @@ largestModulus = 65535
 
 abbrev pub allowedModulus : ℕ → Bool
 allowedModulus m = leb 2 m && leb m largestModulus
-
--- "One congruence: m allowed? 2. a, b below m? 6."
-abbrev pub congruenceQuestions : ℕ → ℕ → ℕ → List Question
-congruenceQuestions a b m = asks 2 (allowedModulus m) ∷ asks 6 (ltb a m && ltb b m) ∷ []

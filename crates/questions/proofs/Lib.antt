@@ -1,0 +1,2 @@
+-- Laws of questions, for every crate that asks some.
+pub mod Questions

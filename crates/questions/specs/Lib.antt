@@ -1,0 +1,2 @@
+-- What every call's questions have in common.
+pub mod Questions

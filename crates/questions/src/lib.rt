@@ -1,0 +1,11 @@
+// The question that all calls with a modulus ask of it.
+ghost use mathlib.Core.Path.{_≡_};
+ghost use Rattle.questions.specs.Questions.{allowedModulus};
+
+pub const LARGEST_MODULUS: u32 = 65535;
+
+pub fn is_modulus(m: u32) -> bool
+    ensures { λ r. ⌜ r ≡ allowedModulus m ⌝ }
+{
+    2 <= m && m <= LARGEST_MODULUS
+}
