@@ -3,7 +3,9 @@
 --   solutions-closed      the solutions with right sides 0 are closed under combination
 --   combination-start     a combination from c is c plus the combination from the zeros
 --   start-solves          the starting vector is a solution
+--   first-solution        it is the first of them in dictionary order
 --   start-none            there is no start exactly when nothing solves
+--   first-step, step-none   so with the step at a place
 --   Found, start-found    there is a start, or there is none
 --   answer-sound          start plus any combination of the steps is a solution
 --   answer-written        a solution is one, within the ranges
@@ -15,14 +17,12 @@ use mathlib.Core.Option.{Option, none, some}
 use Prim.Native.Nat.{ℕ, _<_}
 use lib.Dec.{T}
 use Rattle.residue.specs.Negative.{negative}
-use Rattle.equations.specs.Vectors.{Vector, combine, combination}
+use Rattle.equations.specs.Vectors.{Vector, First, combine, combination}
 use Rattle.equations.specs.Equation.{Equation, solves, homogeneous}
-use Rattle.equations.specs.Answer.{startOf, stepsOf}
+use Rattle.equations.specs.Answer.{startOf, isStep, stepAt, stepsOf}
 use Rattle.equations.specs.Promises.{Within, Written}
-use Rattle.equations.proofs.Truth.{false-of}
 use Rattle.equations.proofs.Vectors.{vector-same-length}
-use Rattle.equations.proofs.First.{first-none}
-use Rattle.equations.proofs.Search.{first-holds, none-means-none}
+use Rattle.equations.proofs.Search.{first-of, first-some, first-holds, found-none}
 use Rattle.equations.proofs.Solving.{combine-solves, zeros-solve, difference-solves, sum-solves}
 use Rattle.equations.proofs.Combine.{vector-combine, combine-comm, combine-assoc, combine-zeros, combine-difference, combine-cancel}
 use Rattle.equations.proofs.Closed.{Closed}
@@ -49,11 +49,25 @@ pub start-solves : (m n : ℕ) (es : List Equation) (c : List ℕ) → startOf m
 unfolding startOf
 start-solves m n es c h = first-holds m n (solves m es) c h
 
+pub first-solution : (m n : ℕ) (es : List Equation) (c : List ℕ)
+    → (startOf m n es ≡ some c) ↔ First m n (solves m es) c
+unfolding startOf
+first-solution m n es c = (first-some m n (solves m es) c, first-of m n (solves m es) c)
+
 pub start-none : (m n : ℕ) (es : List Equation)
     → (startOf m n es ≡ none) ↔ ((v : List ℕ) → Vector m n v → T (solves m es v) → ⊥)
 unfolding startOf
-start-none m n es =
-    (none-means-none m n (solves m es), λ f. first-none m n (solves m es) (λ v vec. false-of (solves m es v) (f v vec)))
+start-none m n es = found-none m n (solves m es)
+
+pub first-step : (m n j : ℕ) (es : List Equation) (s : List ℕ)
+    → (stepAt m n es j ≡ some s) ↔ First m n (isStep m es j) s
+unfolding stepAt
+first-step m n j es s = (first-some m n (isStep m es j) s, first-of m n (isStep m es j) s)
+
+pub step-none : (m n j : ℕ) (es : List Equation)
+    → (stepAt m n es j ≡ none) ↔ ((v : List ℕ) → Vector m n v → T (isStep m es j v) → ⊥)
+unfolding stepAt
+step-none m n j es = found-none m n (isStep m es j)
 
 abbrev pub Found : ℕ → ℕ → List Equation → Type 0
 Found m n es = (startOf m n es ≡ none) ⊎ ((c : List ℕ) × (startOf m n es ≡ some c))

@@ -12,9 +12,9 @@ use lib.Dec.{T, eqb, eqb→eq, eqb-refl}
 use mir.Facts.{and-yes, yes-and}
 use Rattle.equations.specs.Lists.{first, every, someone}
 use Rattle.equations.specs.Vectors.{Vector, vectors, sameVector}
-use Rattle.equations.proofs.Truth.{true-of, of-true, of-false}
-use Rattle.equations.proofs.First.{first-none, first-is}
-use Rattle.equations.proofs.Search.{Search, search-vectors, none-means-none}
+use Rattle.equations.proofs.Truth.{true-of, of-false}
+use Rattle.equations.proofs.First.{first-none}
+use Rattle.equations.proofs.Search.{Search, search-vectors, first-of, none-means-none}
 
 -- ---- every one passes, some one passes
 
@@ -73,14 +73,14 @@ module _ (m n : ℕ) (p : List ℕ → Bool) where
   someone-vector t = go (search-vectors m n p)
     where
       go : Search m n p → (v : List ℕ) × Vector m n v × T (p v)
-      go (inl (v, f)) = (v, f .vector, of-true (f .holds))
+      go (inl (v, f)) = (v, f .vector, f .holds)
       go (inr fails) = absurd (first-of-someone p (vectors m n) t (first-none m n p fails))
 
   pub someone-of : (v : List ℕ) → Vector m n v → T (p v) → T (someone p (vectors m n))
   someone-of v vec t = go (search-vectors m n p)
     where
       go : Search m n p → T (someone p (vectors m n))
-      go (inl (w, f)) = someone-of-first p (vectors m n) w (first-is m n p w (f .vector) (f .holds) (f .least))
+      go (inl (w, f)) = someone-of-first p (vectors m n) w (first-of m n p w f)
       go (inr fails) = absurd (of-false (fails v vec) t)
 
 -- ---- the same vector

@@ -2,13 +2,29 @@
 use mathlib.Core.Path.{fun-ext}
 use mathlib.Core.List.{_∷_, _++_}
 use native.Mathlib.Omega.{arith}
-use Rattle.equations.specs.Promises.{constant, Complete, Unique, StepDivides, Counted, OwnAnswer, NoStart, Refuted, NoEquations, ZeroEquation, ContradictoryEquation}
-use Rattle.equations.proofs.Answer.{answer-complete, answer-unique, start-none}
+use Rattle.equations.specs.Promises.{constant, DictionaryOrder, StartFirst, NoStart, StepFirst, NoStep, Complete, Unique, StepDivides, Counted, OwnAnswer, Refuted, NoEquations, ZeroEquation, ContradictoryEquation}
+use Rattle.equations.proofs.Vectors.{before-asym, before-trans, before-total}
+use Rattle.equations.proofs.Answer.{first-solution, start-none, first-step, step-none, answer-complete, answer-unique}
 use Rattle.equations.proofs.Passing.{answer-passes, none-passes}
 use Rattle.equations.proofs.Number.{count-solutions}
 use Rattle.equations.proofs.Places.{step-entry}
 use Rattle.equations.proofs.Multipliers.{refuted-none}
 use Rattle.equations.proofs.Special.{solves-start, solves-steps, solves-passes, none-start, none-steps, zero-solves, zero-homogeneous, contradiction-none}
+
+pub dictionary-order : DictionaryOrder
+dictionary-order m n = record { total = before-total m n; strict = before-asym; onward = before-trans }
+
+pub start-first : StartFirst
+start-first = first-solution
+
+pub no-start : NoStart
+no-start = start-none
+
+pub step-first : StepFirst
+step-first = first-step
+
+pub no-step : NoStep
+no-step = step-none
 
 pub complete : Complete
 complete = answer-complete
@@ -24,9 +40,6 @@ counted = count-solutions
 
 pub own-answer : OwnAnswer
 own-answer m n es pos = ((λ c. answer-passes m n es c pos), none-passes m n es)
-
-pub no-start : NoStart
-no-start = start-none
 
 pub refuted : Refuted
 refuted = refuted-none

@@ -13,12 +13,12 @@ use native.Mathlib.Omega.{arith}
 use lib.Dec.{T, eqb, eqb→eq}
 use mir.Facts.{and-yes, yes-and}
 use Rattle.equations.specs.Lists.{first}
-use Rattle.equations.specs.Vectors.{Vector, Before, vectors}
+use Rattle.equations.specs.Vectors.{Vector, Before, First, vectors}
 use Rattle.equations.specs.Equation.{Equation, solves, homogeneous}
 use Rattle.equations.specs.Answer.{leadsAt, stepAt, andThen, stepsFrom, stepsOf}
 use Rattle.equations.proofs.Truth.{false-of, of-false}
-use Rattle.equations.proofs.First.{first-none, first-is}
-use Rattle.equations.proofs.Search.{First, Search, search-vectors}
+use Rattle.equations.proofs.First.{first-none}
+use Rattle.equations.proofs.Search.{Search, search-vectors, first-of}
 use Rattle.equations.proofs.Closed.{headTest}
 
 -- the test of the step at place j
@@ -52,18 +52,17 @@ module _ (m n j : ℕ) (p : List ℕ → Bool) (pos : 0 < m) where
           false-of (stepTest p (suc j) (x ∷ w)) (λ t. of-false (f w (vec .1)) (shifted x w t .1))
 
       least : (v : List ℕ) → First m n (stepTest (λ v. p (0 ∷ v)) j) v
-          → (w : List ℕ) → Vector m (suc n) w → Before w (0 ∷ v) → stepTest p (suc j) w ≡ false
-      least v f [] vec b = absurd vec
-      least v f (x ∷ w) vec (inl lt) = absurd (omega arith)
-      least v f (x ∷ w) vec (inr b) =
-          false-of (stepTest p (suc j) (x ∷ w)) (λ t. of-false (f .least w (vec .1) (b .1)) (shifted x w t .1))
+          → (w : List ℕ) → Vector m (suc n) w → Before w (0 ∷ v) → T (stepTest p (suc j) w) → ⊥
+      least v f [] vec b t = absurd vec
+      least v f (x ∷ w) vec (inl lt) t = omega arith
+      least v f (x ∷ w) vec (inr b) t = f .least w (vec .1) (b .1) (shifted x w t .1)
 
       go : Search m n (stepTest (λ v. p (0 ∷ v)) j) → first (stepTest p (suc j)) (vectors m (suc n))
           ≡ Option·map zeroFirst (first (stepTest (λ v. p (0 ∷ v)) j) (vectors m n))
       go (inl (v, f)) =
-          first-is m (suc n) (stepTest p (suc j)) (0 ∷ v) (pos, f .vector) (f .holds) (least v f)
-          ∙ sym (ap (Option·map zeroFirst)
-          (first-is m n (stepTest (λ v. p (0 ∷ v)) j) v (f .vector) (f .holds) (f .least)))
+          first-of m (suc n) (stepTest p (suc j)) (0 ∷ v)
+          record { vector = (pos, f .vector); holds = f .holds; least = least v f }
+          ∙ sym (ap (Option·map zeroFirst) (first-of m n (stepTest (λ v. p (0 ∷ v)) j) v f))
       go (inr f) =
           first-none m (suc n) (stepTest p (suc j)) (fails f)
           ∙ sym (ap (Option·map zeroFirst) (first-none m n (stepTest (λ v. p (0 ∷ v)) j) f))

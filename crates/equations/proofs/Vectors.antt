@@ -10,9 +10,10 @@
 --   all-below                      `allBelow` is the test of that
 --   all-below-on, all-below-stop   one number more is looked at: it is below m, or it is not
 --   before-asym, before-irrefl     the order is strict
+--   before-trans, before-total     and goes on; of two vectors one comes before the other, or they are equal
 --   nothing-before-zeros           and begins with the zeros
-use mathlib.Core.Path.{_≡_, refl, sym, ap, _∙_}
-use mathlib.Core.Logic.{inl, inr, _↔_}
+use mathlib.Core.Path.{_≡_, refl, sym, ap, ap₂, _∙_}
+use mathlib.Core.Logic.{_⊎_, inl, inr, _↔_}
 use mathlib.Core.List.{List, [], _∷_, _++_}
 use mathlib.Core.Bool.{false}
 use Prim.Native.Nat.{ℕ, zero, suc, _+_, _≤_, _<_}
@@ -106,6 +107,42 @@ pub before-irrefl : (v : List ℕ) → Before v v → ⊥
 before-irrefl [] p = p
 before-irrefl (x ∷ v) (inl p) = omega arith
 before-irrefl (x ∷ v) (inr p) = before-irrefl v (p .1)
+
+pub before-trans : (u v w : List ℕ) → Before u v → Before v w → Before u w
+before-trans [] v w p q = p
+before-trans (x ∷ u) [] w p q = absurd p
+before-trans (x ∷ u) (y ∷ v) [] p q = q
+before-trans (x ∷ u) (y ∷ v) (z ∷ w) (inl p) (inl q) = inl (omega arith)
+before-trans (x ∷ u) (y ∷ v) (z ∷ w) (inl p) (inr q) = inl (omega arith)
+before-trans (x ∷ u) (y ∷ v) (z ∷ w) (inr p) (inl q) = inl (omega arith)
+before-trans (x ∷ u) (y ∷ v) (z ∷ w) (inr p) (inr q) = inr (p .0 ∙ q .0, before-trans u v w (p .1) (q .1))
+
+three-ways : (x y : ℕ) → (x < y) ⊎ ((x ≡ y) ⊎ (y < x))
+three-ways zero zero = inr (inl refl)
+three-ways zero (suc y) = inl (omega arith)
+three-ways (suc x) zero = inr (inr (omega arith))
+three-ways (suc x) (suc y) = go (three-ways x y)
+  where
+    go : (x < y) ⊎ ((x ≡ y) ⊎ (y < x)) → (suc x < suc y) ⊎ ((suc x ≡ suc y) ⊎ (suc y < suc x))
+    go (inl lt) = inl (omega arith)
+    go (inr (inl e)) = inr (inl (ap suc e))
+    go (inr (inr gt)) = inr (inr (omega arith))
+
+pub before-total : (m n : ℕ) (v w : List ℕ) → Vector m n v → Vector m n w → Before v w ⊎ ((v ≡ w) ⊎ Before w v)
+before-total m zero [] [] a b = inr (inl refl)
+before-total m zero [] (y ∷ w) a b = absurd b
+before-total m zero (x ∷ v) w a b = absurd a
+before-total m (suc n) [] w a b = absurd a
+before-total m (suc n) (x ∷ v) [] a b = absurd b
+before-total m (suc n) (x ∷ v) (y ∷ w) a b = go (three-ways x y) (before-total m n v w (a .1) (b .1))
+  where
+    go : (x < y) ⊎ ((x ≡ y) ⊎ (y < x)) → Before v w ⊎ ((v ≡ w) ⊎ Before w v)
+        → Before (x ∷ v) (y ∷ w) ⊎ (((x ∷ v) ≡ (y ∷ w)) ⊎ Before (y ∷ w) (x ∷ v))
+    go (inl lt) rest = inl (inl lt)
+    go (inr (inr gt)) rest = inr (inr (inl gt))
+    go (inr (inl e)) (inl b) = inl (inr (e, b))
+    go (inr (inl e)) (inr (inl h)) = inr (inl (ap₂ _∷_ e h))
+    go (inr (inl e)) (inr (inr b)) = inr (inr (inr (sym e, b)))
 
 pub nothing-before-zeros : (n : ℕ) (w : List ℕ) → Before w (replicate n 0) → ⊥
 nothing-before-zeros zero [] b = b

@@ -1,7 +1,7 @@
 -- Demand 2 about the definitions, in the customer's words and document 01's. Each promise is a type;
 -- proofs/Promises.antt keeps it. Definitions only.
 use mathlib.Core.Path.{_≡_}
-use mathlib.Core.Logic.{_↔_}
+use mathlib.Core.Logic.{_↔_, _⊎_}
 use mathlib.Core.List.{List, [], _∷_, _++_, map}
 use mathlib.Core.Option.{none, some}
 use Prim.Native.Nat.{ℕ, zero, suc, _<_}
@@ -9,11 +9,44 @@ use lib.ListN.{getD, replicate}
 use lib.Dec.{T}
 use Rattle.residue.specs.Divides.{Divides}
 use Rattle.equations.specs.Lists.{count}
-use Rattle.equations.specs.Vectors.{Vector, vectors, combination}
+use Rattle.equations.specs.Vectors.{Vector, Before, First, vectors, combination}
 use Rattle.equations.specs.Equation.{Equation, solves}
-use Rattle.equations.specs.Answer.{startOf, stepAt, stepsOf, leading, rangeOf, rangeProduct}
+use Rattle.equations.specs.Answer.{startOf, isStep, stepAt, stepsOf, leading, rangeOf, rangeProduct}
 use Rattle.equations.specs.Multipliers.{refutes}
 use Rattle.equations.specs.Claim.{Claim, noSolution, from, passes}
+
+-- "Vectors of n residues stand in dictionary order": of two different ones just one comes before the other, and what comes
+-- before v comes before whatever v is before. So at most one vector is the first that passes a test.
+pub record Ordered (m n : ℕ) : Type 0 where
+  pub total : (v w : List ℕ) → Vector m n v → Vector m n w → Before v w ⊎ ((v ≡ w) ⊎ Before w v)
+  pub strict : (v w : List ℕ) → Before v w → Before w v → ⊥
+  pub onward : (u v w : List ℕ) → Before u v → Before v w → Before u w
+
+abbrev pub DictionaryOrder : Type 0
+DictionaryOrder = (m n : ℕ) → Ordered m n
+
+-- "Starting vector: the first solution in dictionary order."
+abbrev pub StartFirst : Type 0
+StartFirst =
+    (m n : ℕ) (es : List Equation) (c : List ℕ) → (startOf m n es ≡ some c) ↔ First m n (solves m es) c
+
+-- there is no starting vector exactly when "no vector of residues solves all those equations"
+abbrev pub NoStart : Type 0
+NoStart =
+    (m n : ℕ) (es : List Equation)
+    → (startOf m n es ≡ none) ↔ ((v : List ℕ) → Vector m n v → T (solves m es v) → ⊥)
+
+-- "Step at place j: among the vectors that solve all the equations with right sides put to 0, and whose first non-zero
+-- entry is at j, the first in dictionary order."
+abbrev pub StepFirst : Type 0
+StepFirst =
+    (m n j : ℕ) (es : List Equation) (s : List ℕ) → (stepAt m n es j ≡ some s) ↔ First m n (isStep m es j) s
+
+-- "A place without such a vector has no step.", and every other place has one
+abbrev pub NoStep : Type 0
+NoStep =
+    (m n j : ℕ) (es : List Equation)
+    → (stepAt m n es j ≡ none) ↔ ((v : List ℕ) → Vector m n v → T (isStep m es j v) → ⊥)
 
 -- "its coefficient runs over 0..m/d-1": one coefficient for each step, each within its step's range
 abbrev pub Within : ℕ → List (List ℕ) → List ℕ → Type 0
@@ -58,12 +91,6 @@ OwnAnswer =
     (m n : ℕ) (es : List Equation) → 0 < m
     → ((c : List ℕ) → startOf m n es ≡ some c → T (passes m n es (from c (stepsOf m n es))))
     × (startOf m n es ≡ none → T (passes m n es noSolution))
-
--- there is no starting vector exactly when "no vector of residues solves all those equations"
-abbrev pub NoStart : Type 0
-NoStart =
-    (m n : ℕ) (es : List Equation)
-    → (startOf m n es ≡ none) ↔ ((v : List ℕ) → Vector m n v → T (solves m es v) → ⊥)
 
 -- multipliers that refute the equations leave no solution
 abbrev pub Refuted : Type 0
