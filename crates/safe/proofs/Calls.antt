@@ -74,12 +74,12 @@ module _ (m rows columns : ℕ) (values old : List ℕ) where
 
 module _ (m rows columns : ℕ) (values vs : List ℕ) (are : turnsOf m rows columns values ≡ some vs) where
   pub turns-length : length vs ≡ rows * columns
-  turns-length = vector-length m (rows * columns) vs (wanted m rows columns values vs are .residues)
+  turns-length = vector-length m (rows * columns) vs (wanted m rows columns values vs .0 are .vector)
 
   pub turns-small : m ≤ largestModulus → Below numbersOfAKind vs
   turns-small h =
       below-mono m numbersOfAKind vs (omega arith)
-      (vector-below m (rows * columns) vs (wanted m rows columns values vs are .residues))
+      (vector-below m (rows * columns) vs (wanted m rows columns values vs .0 are .vector))
 
 -- ---- how many words are written
 

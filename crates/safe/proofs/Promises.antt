@@ -4,9 +4,7 @@ use mathlib.Core.Path.{_≡_, sym, ap, _∙_}
 use Prim.Native.Nat.{ℕ, _+_, _*_, _%_, _<_}
 use native.Mathlib.Omega.{arith}
 use lib.ListN.{length, getD}
-use Rattle.equations.proofs.Truth.{false-of}
-use Rattle.equations.proofs.First.{first-none}
-use Rattle.equations.proofs.Search.{first-holds, first-least, none-means-none}
+use Rattle.equations.proofs.Search.{first-of, first-some, found-none}
 use Rattle.safe.specs.Locks.{afterTurns}
 use Rattle.safe.specs.Turns.{opens, turnsOf}
 use Rattle.safe.specs.Promises.{sumAt, EachTurned, EachOpened, Wanted, NoneOpens}
@@ -33,18 +31,11 @@ each-opened m columns values turns b = (
 
 pub wanted : Wanted
 unfolding turnsOf
-wanted m rows columns values turns h =
-    let holds = first-holds m (rows * columns) (opens m columns values) turns h in
-    record {
-      residues = holds .0;
-      opening = holds .1;
-      first = first-least m (rows * columns) (opens m columns values) turns h;
-    }
+wanted m rows columns values turns = (
+  first-some m (rows * columns) (opens m columns values) turns,
+  first-of m (rows * columns) (opens m columns values) turns,
+)
 
 pub none-opens : NoneOpens
 unfolding turnsOf
-none-opens m rows columns values = (
-  none-means-none m (rows * columns) (opens m columns values),
-  λ no. first-none m (rows * columns) (opens m columns values)
-      (λ v vec. false-of (opens m columns values v) (no v vec)),
-)
+none-opens m rows columns values = found-none m (rows * columns) (opens m columns values)

@@ -8,7 +8,7 @@ use mathlib.Core.Path.{_≡_}
 use Prim.Native.Nat.{ℕ, suc, _+_, _*_, _%_, _<_}
 use lib.Dec.{T}
 use lib.ListN.{length, getD}
-use Rattle.equations.specs.Vectors.{Vector, Below, Before}
+use Rattle.equations.specs.Vectors.{Vector, Below, First}
 use Rattle.safe.specs.Locks.{meets, afterTurns}
 use Rattle.safe.specs.Turns.{opens, turnsOf}
 
@@ -35,15 +35,10 @@ EachOpened =
     ↔ ((i : ℕ) → i < length values → (getD values i 0 + sumAt columns i turns) % m ≡ 0)
 
 -- "the dictionary-first turns .. that bring all to 0"
-pub record FirstTurns (m rows columns : ℕ) (values turns : List ℕ) : Type 0 where
-  pub residues : Vector m (rows * columns) turns
-  pub opening : T (opens m columns values turns)
-  pub first : (v : List ℕ) → Vector m (rows * columns) v → Before v turns → T (opens m columns values v) → ⊥
-
 abbrev pub Wanted : Type 0
 Wanted =
-    (m rows columns : ℕ) (values turns : List ℕ) → turnsOf m rows columns values ≡ some turns
-    → FirstTurns m rows columns values turns
+    (m rows columns : ℕ) (values turns : List ℕ)
+    → (turnsOf m rows columns values ≡ some turns) ↔ First m (rows * columns) (opens m columns values) turns
 
 -- "or none": exactly where no turns open the safe
 abbrev pub NoneOpens : Type 0
