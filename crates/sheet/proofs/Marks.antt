@@ -1,10 +1,12 @@
 -- A mark is right: what demand 3 says of it.
 --   marked-accepted    an accepted claim is passed or failed
---   right-mark         it is passed exactly when it describes the solutions of the ledger's equations
+--   well-accepted      a well-formed claim is accepted
+--   well-described     and passes exactly when it describes the solutions of the ledger's equations
+--   right-mark         so it is marked
 --   own-mark           an answer's own words, where there is a solution, are passed
 use mathlib.Core.Path.{_≡_, refl, ap, _∙_}
 use mathlib.Core.Logic.{_↔_}
-use mathlib.Core.Bool.{Bool, true, false, cond}
+use mathlib.Core.Bool.{Bool, cond}
 use mathlib.Core.List.{List}
 use mathlib.Core.Option.{some}
 use Prim.Native.Nat.{ℕ, _<_, _≤_}
@@ -14,7 +16,7 @@ use Rattle.equations.specs.Equation.{Equation}
 use Rattle.equations.specs.Answer.{startOf}
 use Rattle.equations.specs.Claim.{passes}
 use Rattle.equations.specs.Multipliers.{allBelow}
-use Rattle.equations.proofs.Truth.{true-of}
+use Rattle.equations.proofs.Truth.{true-of, cond-tells}
 use Rattle.equations.proofs.Claim.{passes-described}
 use Rattle.equations.proofs.Promises.{own-answer}
 use Rattle.system.proofs.Claims.{claim-described}
@@ -37,33 +39,29 @@ pub marked-accepted : (l : Ledger) (ws : List ℕ) → refusalOf l (marks ws) �
 unfolding markedOf
 marked-accepted l ws accepted = rw accepted
 
--- a test that says the same as P decides the mark
-mark-by : (P : Type 0) (b : Bool) → T b ↔ P
-    → ((cond b Pass Fail ≡ Pass) ↔ P) × ((cond b Pass Fail ≡ Fail) ↔ (P → ⊥))
-mark-by P true same = (
-  ((λ e. same .0 tt), λ p. refl),
-  ((λ e. absurd (let z : _≡_ {A = ℕ} 0 1 = cc in omega arith)), λ no. absurd (no (same .0 tt))),
-)
-mark-by P false same = (
-  ((λ e. absurd (let z : _≡_ {A = ℕ} 0 1 = cc in omega arith)), λ p. absurd (same .1 p)),
-  ((λ e p. same .1 p), λ no. refl),
-)
+pass-or-fail : Pass ≡ Fail → ⊥
+pass-or-fail same = let z : _≡_ {A = ℕ} 0 1 = cc in omega arith
 
 module _ (m n : ℕ) (es : List Equation) where
+  pub well-accepted : (ws : List ℕ) → WellFormed m n ws → refusalOf (opened m n es) (marks ws) ≡ 0
+  well-accepted ws well =
+      marks-accepted (opened m n es) refl ws (true-of (isClaim n ws) (well .0))
+      (true-of (allBelow m (entriesOf ws)) (well .1))
+
+  pub well-described : 0 < m → (ws : List ℕ) → WellFormed m n ws
+      → T (passes m n es (claimFrom n ws)) ↔ DescribesSolutions m n es (claimFrom n ws)
+  well-described pos ws well =
+      passes-described m n es (claimFrom n ws)
+      (claim-described m n (entriesOf ws) pos (claimed n ws (well .0) m (well .1)))
+
   marked-well : (ws : List ℕ) → WellFormed m n ws
       → markedOf (opened m n es) ws ≡ cond (passes m n es (claimFrom n ws)) Pass Fail
-  marked-well ws well =
-      marked-accepted (opened m n es) ws
-      (marks-accepted (opened m n es) refl ws (true-of (isClaim n ws) (well .0))
-      (true-of (allBelow m (entriesOf ws)) (well .1)))
+  marked-well ws well = marked-accepted (opened m n es) ws (well-accepted ws well)
 
   pub right-mark : 0 < m → (ws : List ℕ) → WellFormed m n ws
       → RightMark m n es (claimFrom n ws) (markedOf (opened m n es) ws)
   right-mark pos ws well =
-      let both =
-      mark-by (DescribesSolutions m n es (claimFrom n ws)) (passes m n es (claimFrom n ws))
-      (passes-described m n es (claimFrom n ws)
-      (claim-described m n (entriesOf ws) pos (claimed n ws (well .0) m (well .1)))) in
+      let both = cond-tells Pass Fail pass-or-fail (passes m n es (claimFrom n ws)) (well-described pos ws well) in
       rw (marked-well ws well) (record { passed = both .0; failed = both .1 })
 
   pub own-mark : 0 < m → m ≤ numbersOfAKind → 0 < n → n ≤ 16 → (c : List ℕ) → startOf m n es ≡ some c

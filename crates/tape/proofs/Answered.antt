@@ -86,7 +86,7 @@ module _ (s : Sheet) (w : ℕ) where
         record {
           count = count ∙ ap length (sym front);
           block = rw (front, same) (numbers .1);
-          lines = rw (front, same) (ap (blockLines (unknownsOf (ledgerOf s))) (numbers .0) ∙ accepted-told s (answersFromTape w) accepted);
+          lines = rw (front, same) (ap (blockLines (unknownsOf (ledgerOf s))) (numbers .0) ∙ accepted-told (ledgerOf s) (answersFromTape w) accepted);
         }
 
   abbrev says : Bool → Answered

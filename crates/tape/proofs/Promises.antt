@@ -1,26 +1,60 @@
--- The promise of specs/Promises.antt, kept: an answer's block, cut into vectors again, is the start and the steps.
-use mathlib.Core.Path.{_≡_, ap, ap₂, _∙_}
-use mathlib.Core.List.{List, _++_, flatten}
-use mathlib.Core.Option.{none, some}
+-- The promises of specs/Promises.antt, kept: an answer's block, cut into vectors again, is the start and the steps, and the line of a
+-- mark tells whether the claim passes.
+use mathlib.Core.Path.{_≡_, refl, sym, ap, ap₂, _∙_}
+use mathlib.Core.Bool.{cond}
+use mathlib.Core.List.{List, [], _∷_, _++_, append-assoc, flatten}
+use mathlib.Core.Option.{some}
 use Prim.Native.Nat.{ℕ, _<_}
 use native.Mathlib.Omega.{arith}
-use lib.Dec.{T}
-use lib.ListN.{length}
+use lib.Dec.{T, eqb→eq}
+use lib.ListN.{length, getD}
 use lib.Seq.{take-at, drop-at}
 use Rattle.equations.specs.Equation.{Equation}
 use Rattle.equations.specs.Answer.{startOf, stepsOf}
 use Rattle.equations.specs.Multipliers.{refutes}
+use Rattle.equations.specs.Claim.{passes}
+use Rattle.equations.proofs.Truth.{cond-tells}
 use Rattle.equations.proofs.Vectors.{vector-length}
 use Rattle.equations.proofs.Answer.{start-solves}
 use Rattle.equations.proofs.Listed.{steps-vectors}
+use Rattle.equations.proofs.Promises.{no-start}
 use Rattle.system.specs.Claims.{vectorsWithin}
 use Rattle.system.proofs.Block.{block-some, block-none}
 use Rattle.system.proofs.Chunks.{within-flatten}
-use Rattle.ledger.specs.Ledger.{opened}
+use Rattle.words.specs.Words.{numberOf}
+use Rattle.ledger.specs.Ledger.{Ledger, unopened, opened}
 use Rattle.ledger.specs.Allowed.{Allowed}
-use Rattle.tape.specs.Text.{line}
-use Rattle.tape.specs.Lines.{blockLines, stepLines, answerLines}
-use Rattle.tape.specs.Promises.{AnswersPrinted}
+use Rattle.ledger.specs.Shapes.{claimFrom}
+use Rattle.ledger.specs.Calls.{Call, marks, answersFromTape}
+use Rattle.ledger.specs.Questions.{plain}
+use Rattle.ledger.specs.History.{enter, ledgerFrom, ledger}
+use Rattle.ledger.proofs.Refusals.{answers-word-plain}
+use Rattle.ledger.proofs.Sound.{ledger-sound}
+use Rattle.sheet.specs.Promises.{NothingSolves, WellFormed}
+use Rattle.sheet.proofs.Marks.{well-accepted, well-described}
+use Rattle.tape.specs.Text.{line, lineOf}
+use Rattle.tape.specs.Lines.{blockLines, stepLines, answerLines, callLines, linesFrom}
+use Rattle.tape.specs.Promises.{CallPrinted, AnswerPrinted, AnswersPrinted, MarkPrinted, MarksPrinted}
+use Rattle.tape.proofs.Told.{accepted-told}
+
+-- ---- a call behind others
+
+call-from : (l : Ledger) (before rest : List Call) (c : Call)
+    → linesFrom l (before ++ (c ∷ rest))
+    ≡ linesFrom l before ++ (callLines (ledgerFrom l before) c ++ linesFrom (enter (ledgerFrom l before) c) rest)
+unfolding linesFrom ledgerFrom
+call-from l [] rest c = refl
+call-from l (b ∷ before) rest c =
+    ap (λ (z : List ℕ). callLines l b ++ z) (call-from (enter l b) before rest c)
+    ∙ sym (append-assoc (callLines l b) (linesFrom (enter l b) before)
+    (callLines (ledgerFrom (enter l b) before) c ++ linesFrom (enter (ledgerFrom (enter l b) before) c) rest))
+
+pub call-printed : CallPrinted
+call-printed = call-from unopened
+
+pass-or-fail : line "pass" [] ≡ line "fail" [] → ⊥
+unfolding lineOf
+pass-or-fail same = omega (arith, ap (λ (bytes : List ℕ). getD bytes 0 0) same)
 
 module _ (m n : ℕ) (es : List Equation) where
   solution-printed : (c : List ℕ) → startOf m n es ≡ some c
@@ -33,13 +67,43 @@ module _ (m n : ℕ) (es : List Equation) where
       (ap (vectorsWithin (length (stepsOf m n es)) n) (drop-at c (flatten (stepsOf m n es)) n long)
       ∙ within-flatten m n (stepsOf m n es) (steps-vectors m n es))
 
-  refutation-printed : Allowed m n es → startOf m n es ≡ none
-      → (ks : List ℕ) × T (refutes m n es ks) × (answerLines (opened m n es) ≡ line "none" ks)
-  refutation-printed allowed h =
-      let positive : 0 < m = omega (arith, allowed .modulus) in
-      let b = block-none m n es positive (allowed .shaped) h in
-      (b .0, b .2, ap (blockLines n) (b .1))
+  module _ (calls : List Call) (holds : ledger calls ≡ opened m n es) where
+    allowed : Allowed m n es
+    allowed = ledger-sound calls m n es holds
+
+    positive : 0 < m
+    positive = omega (arith, allowed .modulus)
+
+    refutation-printed : NothingSolves m n es
+        → (ks : List ℕ) × T (refutes m n es ks) × (answerLines (opened m n es) ≡ line "none" ks)
+    refutation-printed nothing =
+        let b = block-none m n es positive (allowed .shaped) (no-start m n es .1 nothing) in
+        (b .0, b .2, ap (blockLines n) (b .1))
+
+    answer-is : (w : ℕ) → T (plain w) → callLines (ledger calls) (answersFromTape w) ≡ answerLines (opened m n es)
+    answer-is w zero =
+        ap (λ (l : Ledger). callLines l (answersFromTape w)) holds
+        ∙ sym (accepted-told (opened m n es) (answersFromTape w)
+        (answers-word-plain (opened m n es) refl w (eqb→eq (numberOf w) 0 zero)))
+
+    mark-is : (ws : List ℕ) → WellFormed m n ws
+        → callLines (ledger calls) (marks ws) ≡ cond (passes m n es (claimFrom n ws)) (line "pass" []) (line "fail" [])
+    mark-is ws well =
+        ap (λ (l : Ledger). callLines l (marks ws)) holds
+        ∙ sym (accepted-told (opened m n es) (marks ws) (well-accepted m n es ws well))
+
+    answer-printed : (w : ℕ) → T (plain w) → AnswerPrinted m n es (callLines (ledger calls) (answersFromTape w))
+    answer-printed w zero = rw (answer-is w zero) (record { solution = solution-printed; refutation = refutation-printed })
+
+    mark-printed : (ws : List ℕ) → WellFormed m n ws → MarkPrinted m n es (claimFrom n ws) (callLines (ledger calls) (marks ws))
+    mark-printed ws well =
+        let both =
+        cond-tells (line "pass" []) (line "fail" []) pass-or-fail (passes m n es (claimFrom n ws))
+        (well-described m n es positive ws well) in
+        rw (mark-is ws well) (record { pass = both .0; fail = both .1 })
 
 pub answers-printed : AnswersPrinted
-answers-printed m n es allowed =
-    record { solution = solution-printed m n es; refutation = refutation-printed m n es allowed }
+answers-printed calls m n es = answer-printed m n es calls
+
+pub marks-printed : MarksPrinted
+marks-printed calls m n es = mark-printed m n es calls

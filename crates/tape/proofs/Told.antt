@@ -96,9 +96,9 @@ module _ (s : Sheet) (c : Call) {turn : Turn} (is : turn ≡ turnOf s c) where
       go true h = let z : _≡_ {A = ℕ} 0 1 = cc in absurd (omega arith)
       go false h = let same : r ≡ refusalOf (ledgerOf s) c = cc in ap refusedLine same
 
-pub accepted-told : (s : Sheet) (c : Call) → refusalOf (ledgerOf s) c ≡ 0 → acceptedLines (ledgerOf s) c ≡ linesOn s c
+pub accepted-told : (l : Ledger) (c : Call) → refusalOf l c ≡ 0 → acceptedLines l c ≡ callLines l c
 unfolding callLines
-accepted-told s c none = rw none
+accepted-told l c none = rw none
 
 pub opening-two : (l : Ledger) (ws : List ℕ) → refusalOf l (opens ws) ≡ 0 → length ws ≡ 2
 opening-two l ws none = opening-length ws (true-of (isOpening ws) (accepted-yes l (opens ws) none .0))

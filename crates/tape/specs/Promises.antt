@@ -1,26 +1,55 @@
--- What the lines of an answer are, in document 01's terms. The promise is a type; proofs/Promises.antt keeps it.
--- Definitions only.
+-- What a tape prints for answers and marks, in document 01's terms and in demand 3's. Each promise is a type; proofs/Promises.antt
+-- keeps it. Definitions only.
 use mathlib.Core.Path.{_≡_}
-use mathlib.Core.List.{List, _++_}
-use mathlib.Core.Option.{none, some}
+use mathlib.Core.Logic.{_↔_}
+use mathlib.Core.List.{List, [], _∷_, _++_}
+use mathlib.Core.Option.{some}
 use Prim.Native.Nat.{ℕ}
 use lib.Dec.{T}
 use Rattle.equations.specs.Equation.{Equation}
 use Rattle.equations.specs.Answer.{startOf, stepsOf}
 use Rattle.equations.specs.Multipliers.{refutes}
-use Rattle.ledger.specs.Ledger.{opened}
-use Rattle.ledger.specs.Allowed.{Allowed}
+use Rattle.equations.specs.Claim.{Claim}
+use Rattle.ledger.specs.Ledger.{unopened, opened}
+use Rattle.ledger.specs.Shapes.{claimFrom}
+use Rattle.ledger.specs.Calls.{Call, marks, answersFromTape}
+use Rattle.ledger.specs.Questions.{plain}
+use Rattle.ledger.specs.History.{enter, ledger}
+use Rattle.sheet.specs.Promises.{NothingSolves, WellFormed, DescribesSolutions}
 use Rattle.tape.specs.Text.{line}
-use Rattle.tape.specs.Lines.{stepLines, answerLines}
+use Rattle.tape.specs.Lines.{stepLines, callLines, linesFrom}
 
-pub record AnswerPrinted (m n : ℕ) (es : List Equation) : Type 0 where
-  -- "An answer is `from` and the n entries, then a `step` line with n entries for each step"
+-- "Each call gives a line": for a call behind others, `callLines` of the ledger that those lead to is what a tape prints between
+-- their lines and the lines of the calls behind it.
+abbrev pub CallPrinted : Type 0
+CallPrinted =
+    (before rest : List Call) (c : Call)
+    → linesFrom unopened (before ++ (c ∷ rest))
+    ≡ linesFrom unopened before ++ (callLines (ledger before) c ++ linesFrom (enter (ledger before) c) rest)
+
+-- the lines of an answer for es
+pub record AnswerPrinted (m n : ℕ) (es : List Equation) (printed : List ℕ) : Type 0 where
+  -- "An answer is `from` and the n entries, then a `step` line with n entries for each step": "01's starting vector, then all of
+  -- 01's steps and no others, by rising place"
   pub solution : (start : List ℕ) → startOf m n es ≡ some start
-      → answerLines (opened m n es) ≡ line "from" start ++ stepLines (stepsOf m n es)
-  -- "or `none` and the multipliers"
-  pub refutation : startOf m n es ≡ none
-      → (ks : List ℕ) × T (refutes m n es ks) × (answerLines (opened m n es) ≡ line "none" ks)
+      → printed ≡ line "from" start ++ stepLines (stepsOf m n es)
+  -- "or `none` and the multipliers": where "no vector of residues solves all those equations"
+  pub refutation : NothingSolves m n es → (ks : List ℕ) × T (refutes m n es ks) × (printed ≡ line "none" ks)
 
--- of every opened ledger
+-- after every list of calls that leads to an opened ledger, for an answer word whose number is 0
 abbrev pub AnswersPrinted : Type 0
-AnswersPrinted = (m n : ℕ) (es : List Equation) → Allowed m n es → AnswerPrinted m n es
+AnswersPrinted =
+    (calls : List Call) (m n : ℕ) (es : List Equation) → ledger calls ≡ opened m n es
+    → (w : ℕ) → T (plain w) → AnswerPrinted m n es (callLines (ledger calls) (answersFromTape w))
+
+-- `pass` and `fail`: a claim "is passed exactly when the vectors it describes are the vectors that solve all those equations, and
+-- failed otherwise"
+pub record MarkPrinted (m n : ℕ) (es : List Equation) (claim : Claim) (printed : List ℕ) : Type 0 where
+  pub pass : (printed ≡ line "pass" []) ↔ DescribesSolutions m n es claim
+  pub fail : (printed ≡ line "fail" []) ↔ (DescribesSolutions m n es claim → ⊥)
+
+-- after every such list, for "a well-formed claim marked then"
+abbrev pub MarksPrinted : Type 0
+MarksPrinted =
+    (calls : List Call) (m n : ℕ) (es : List Equation) → ledger calls ≡ opened m n es
+    → (ws : List ℕ) → WellFormed m n ws → MarkPrinted m n es (claimFrom n ws) (callLines (ledger calls) (marks ws))

@@ -70,7 +70,7 @@ returns c =
     let both = ap₂ (λ (m n : ℕ). lineOf (bytesOf "open") (m ∷ n ∷ [])) (first .ensures) (second .ensures) in
     let none = said-holds (a .sheet) call (turn .ensures) said in
     told (a .sheet) call (a .out .now) (ap (λ (t : Turn). t .sheet) (turn .ensures))
-    (both ∙ accepted-told (a .sheet) call none) (line .ensures .0 .0) (line .ensures .1)
+    (both ∙ accepted-told (ledgerOf (a .sheet)) call none) (line .ensures .0 .0) (line .ensures .1)
 
 same-length-2 : tie.Need-same-length-2
 same-length-2 c = search needs
