@@ -18,7 +18,14 @@ pub data Prints : Sheet → List ℕ → List (List ℕ) → Type 0 where
       → Prints (stepOf s rest .sheet) (drop (stepOf s rest .used) rest) pieces
       → Prints s rest (linesOn s (firstOn s rest) ∷ pieces)
 
--- joined, they are the tape's lines
+-- Of every tape some pieces are written, however long it is, and no others.
+abbrev pub PrintsOnce : Type 0
+PrintsOnce =
+    (tape : List ℕ)
+    → ((pieces : List (List ℕ)) × Prints fresh tape pieces)
+    × ((pieces others : List (List ℕ)) → Prints fresh tape pieces → Prints fresh tape others → pieces ≡ others)
+
+-- Joined, they are the tape's lines.
 abbrev pub PrintsLines : Type 0
 PrintsLines =
     (tape : List ℕ) (pieces : List (List ℕ)) → length tape ≤ mostBytes → Prints fresh tape pieces → flatten pieces ≡ lines tape
