@@ -1,14 +1,16 @@
 -- The starred examples of document 01, in the paper's order: each a theorem about the definitions that the contracts
--- cite; those with claims or with a strike also through the calls on a sheet. All but the last two are found by
--- computing these definitions.
+-- cite; those with claims or with a strike also through the calls on a sheet. What they say is found by computing these
+-- definitions, but for three things. That a coefficient has no inverse is shown for every t. Which multipliers a block shows "is
+-- left free": of those where x=0 is added it is shown that they serve. And the last two hold for every m, n and list.
 use mathlib.Core.Bool.{true, false}
 use mathlib.Core.List.{List, [], _∷_, _++_, flatten}
 use mathlib.Core.Option.{none, some}
 use mathlib.Core.Path.{_≡_, refl, sym}
-use Prim.Native.Nat.{ℕ}
+use Prim.Native.Nat.{ℕ, _*_}
 use native.Mathlib.Omega.{arith}
 use lib.Dec.{T}
 use lib.ListN.{length, drop}
+use Rattle.residue.specs.Congruent.{Congruent}
 use Rattle.residue.specs.Congruence.{leastOf, solutionsOf}
 use Rattle.residue.specs.Euclid.{euclid}
 use Rattle.residue.specs.Gcd.{gcd}
@@ -99,6 +101,12 @@ two-three-is-five = (refl, refl)
 pub two-three-is-one : Answered 6 2 (equation (2 ∷ 3 ∷ []) 1 ∷ []) (2 ∷ 1 ∷ []) ((3 ∷ 0 ∷ []) ∷ (0 ∷ 2 ∷ []) ∷ [])
 unfolding startOf stepsOf stepAt
 two-three-is-one = (refl, refl)
+
+abbrev pub NoInverse : ℕ → ℕ → Type 0
+NoInverse m a = (t : ℕ) → Congruent m (a * t) 1 → ⊥
+
+pub two-three-no-inverse : NoInverse 6 2 × NoInverse 6 3
+two-three-no-inverse = ((λ t h. omega arith), λ t h. omega arith)
 
 -- "m=4: x+2y=0: from 0 0, steps 2 1 and 0 2."
 abbrev pub oneTwoIsZero : List Equation
