@@ -32,12 +32,12 @@ use Rattle.system.proofs.Promises.{answered}
 use Rattle.words.specs.Words.{word, wordsOf, haveKinds, modulusKind, unknownsKind, coefficientKind, rightKind, headKind, entryKind, multiplierKind}
 use Rattle.ledger.specs.Ledger.{opened}
 use Rattle.ledger.specs.Block.{answerWords}
-use Rattle.ledger.specs.Calls.{Call, opens, adds, strikes, answers}
+use Rattle.ledger.specs.Calls.{Call, opens, adds, strikes}
 use Rattle.ledger.specs.Questions.{refusalOf}
 use Rattle.sheet.specs.declared.marking.Marked.{Marked}
 use Rattle.sheet.specs.declared.marking.Marked.the-variants.{Pass, Fail}
 use Rattle.sheet.specs.Record.{fresh, ledgerOf}
-use Rattle.sheet.specs.Calls.{turnOf, sheetAfter, bufferAfter, markedOf}
+use Rattle.sheet.specs.Calls.{asking, turnOf, sheetAfter, bufferAfter, markedOf}
 use Rattle.sheet.specs.History.{after, sheetFrom}
 
 -- coefficients and a right side, as the paper writes an equation
@@ -61,7 +61,7 @@ block head xs = word headKind head ∷ wordsOf entryKind xs
 
 -- what a buffer that held `old` holds after an answer, asked for after the calls
 abbrev pub buffer : List Call → List ℕ → List ℕ
-buffer calls old = bufferAfter (ledgerOf (after calls)) (answers old) old
+buffer calls old = bufferAfter (ledgerOf (after calls)) (asking old) old
 
 -- what marking says after the calls
 abbrev pub marked : List Call → List ℕ → Marked

@@ -17,15 +17,15 @@ use Rattle.ledger.specs.Calls.{Call}
 use Rattle.ledger.specs.Questions.{refusalOf}
 use Rattle.ledger.proofs.Answer.{answer-some, answer-none, answer-head}
 use Rattle.sheet.specs.declared.answering.Answered.the-variants.{Wrote}
-use Rattle.sheet.specs.Calls.{answeredOf, bufferAfter}
+use Rattle.sheet.specs.Calls.{Asks, answeredOf, bufferAfter}
 use Rattle.sheet.specs.Promises.{RightBlock, Shown}
 
-module _ (l : Ledger) (c : Call) (accepted : refusalOf l c ≡ 0) where
-  pub answered-accepted : answeredOf l c ≡ Wrote (length (answerWords l))
+module _ (l : Ledger) {c : Call} (a : Asks c) (accepted : refusalOf l c ≡ 0) where
+  pub answered-accepted : answeredOf l a ≡ Wrote (length (answerWords l))
   unfolding answeredOf
   answered-accepted = rw accepted
 
-  pub buffer-accepted : (old : List ℕ) → bufferAfter l c old ≡ over (answerWords l) old
+  pub buffer-accepted : (old : List ℕ) → bufferAfter l a old ≡ over (answerWords l) old
   unfolding bufferAfter
   buffer-accepted old = rw accepted
 
@@ -41,6 +41,6 @@ module _ (m n : ℕ) (es : List Equation) (pos : 0 < m) (shaped : Shaped n es) w
             (start-found m n es);
       }
 
-  pub right-answer : (old : List ℕ) (c : Call) → refusalOf (opened m n es) c ≡ 0
-      → Shown (answerWords (opened m n es)) old (answeredOf (opened m n es) c) (bufferAfter (opened m n es) c old)
-  right-answer old c accepted = (answered-accepted (opened m n es) c accepted, buffer-accepted (opened m n es) c accepted old)
+  pub right-answer : (old : List ℕ) {c : Call} (a : Asks c) → refusalOf (opened m n es) c ≡ 0
+      → Shown (answerWords (opened m n es)) old (answeredOf (opened m n es) a) (bufferAfter (opened m n es) a old)
+  right-answer old a accepted = (answered-accepted (opened m n es) a accepted, buffer-accepted (opened m n es) a accepted old)

@@ -25,16 +25,16 @@ use Rattle.ledger.proofs.Refusals.{answers-fit}
 use Rattle.sheet.specs.declared.Sheet.{Sheet}
 use Rattle.sheet.specs.declared.answering.Answered.the-variants.{Wrote, Refused}
 use Rattle.sheet.specs.Record.{linesIn, ledgerOf}
-use Rattle.sheet.specs.Calls.{answeredOf, bufferAfter}
+use Rattle.sheet.specs.Calls.{Asks, asking, askingFromTape, answeredOf, bufferAfter}
 use Rattle.sheet.proofs.Reading.{readable-fit, length-lines, opened-readable, ledger-opened}
 use Rattle.sheet.proofs.Answers.{answered-accepted, buffer-accepted}
 
-module _ (l : Ledger) (c : Call) (k : ℕ) (refused : refusalOf l c ≡ k) (some : k ≡ 0 → ⊥) where
-  pub answered-refused : Refused k ≡ answeredOf l c
+module _ (l : Ledger) {c : Call} (a : Asks c) (k : ℕ) (refused : refusalOf l c ≡ k) (some : k ≡ 0 → ⊥) where
+  pub answered-refused : Refused k ≡ answeredOf l a
   unfolding answeredOf
   answered-refused = rw (refused, ne-eqb k 0 some)
 
-  pub buffer-refused : (old : List ℕ) → old ≡ bufferAfter l c old
+  pub buffer-refused : (old : List ℕ) → old ≡ bufferAfter l a old
   unfolding bufferAfter
   buffer-refused old = rw (refused, ne-eqb k 0 some)
 
@@ -49,14 +49,14 @@ module _ (l : Ledger) (head len : ℕ) (numbers : List ℕ) (whole : len ≤ len
         length-take-le len numbers whole,
       )
 
-  module _ (c : Call) (accepted : refusalOf l c ≡ 0) where
-    pub answered-wrote : Wrote (len + 1) ≡ answeredOf l c
-    answered-wrote = ap Wrote (sym answer-size) ∙ sym (answered-accepted l c accepted)
+  module _ {c : Call} (a : Asks c) (accepted : refusalOf l c ≡ 0) where
+    pub answered-wrote : Wrote (len + 1) ≡ answeredOf l a
+    answered-wrote = ap Wrote (sym answer-size) ∙ sym (answered-accepted l a accepted)
 
     pub buffer-wrote : (old : List ℕ) {new : List ℕ} → new ≡ over (blockWords (head ∷ take len numbers)) old
-        → new ≡ bufferAfter l c old
+        → new ≡ bufferAfter l a old
     buffer-wrote old new-is =
-        new-is ∙ ap (λ (ws : List ℕ). over ws old) is ∙ sym (buffer-accepted l c accepted old)
+        new-is ∙ ap (λ (ws : List ℕ). over ws old) is ∙ sym (buffer-accepted l a accepted old)
 
 module _ (s : Sheet) (w : ℕ) (old : List ℕ) (room : length old ≡ 273) (plain : refusalOf (ledgerOf s) (answersFromTape w) ≡ 0) where
   fits : refusalOf (ledgerOf s) (answers old) ≡ 0
@@ -74,11 +74,11 @@ module _ (s : Sheet) (w : ℕ) (old : List ℕ) (room : length old ≡ 273) (pla
             (omega (arith, f .equations, equations-count (s .held) (s .unknowns) lines (length-lines s f))) (f .unknowns),
       ))
 
-  pub tape-answered : answeredOf (ledgerOf s) (answers old) ≡ answeredOf (ledgerOf s) (answersFromTape w)
+  pub tape-answered : answeredOf (ledgerOf s) (asking old) ≡ answeredOf (ledgerOf s) (askingFromTape w)
   tape-answered =
-      answered-accepted (ledgerOf s) (answers old) fits ∙ sym (answered-accepted (ledgerOf s) (answersFromTape w) plain)
+      answered-accepted (ledgerOf s) (asking old) fits ∙ sym (answered-accepted (ledgerOf s) (askingFromTape w) plain)
 
-  pub tape-buffer : bufferAfter (ledgerOf s) (answers old) old ≡ bufferAfter (ledgerOf s) (answersFromTape w) old
+  pub tape-buffer : bufferAfter (ledgerOf s) (asking old) old ≡ bufferAfter (ledgerOf s) (askingFromTape w) old
   tape-buffer =
-      buffer-accepted (ledgerOf s) (answers old) fits old
-      ∙ sym (buffer-accepted (ledgerOf s) (answersFromTape w) plain old)
+      buffer-accepted (ledgerOf s) (asking old) fits old
+      ∙ sym (buffer-accepted (ledgerOf s) (askingFromTape w) plain old)

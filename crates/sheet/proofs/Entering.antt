@@ -30,7 +30,7 @@ use Rattle.sheet.specs.declared.Sheet.{Sheet}
 use Rattle.sheet.specs.declared.Turn.{Turn}
 use Rattle.sheet.specs.declared.Entered.the-variants.{Holds, Refused}
 use Rattle.sheet.specs.Record.{room, filled, ledgerOf, recordAfter, withoutLast}
-use Rattle.sheet.specs.Calls.{enteredOf, sheetAfter, turnOf}
+use Rattle.sheet.specs.Calls.{Enters, opening, adding, striking, strikingFromTape, enteredOf, sheetAfter, turnOf}
 use Rattle.sheet.proofs.Reading.{Fit, readable-fit, opened-readable, ledger-opened, held-counts}
 use Rattle.sheet.proofs.Records.{more-fits}
 
@@ -40,13 +40,13 @@ refusing s k = record { sheet = s; entered = Refused k }
 abbrev pub holding : Sheet → ℕ → Turn
 holding s k = record { sheet = s; entered = Holds k }
 
-module _ (s : Sheet) (c : Call) (number : ℕ) (is : number ≡ refusalOf (ledgerOf s) c) where
-  pub turn-refused : (number ≡ 0 → ⊥) → refusing s number ≡ turnOf s c
+module _ (s : Sheet) {c : Call} (e : Enters c) (number : ℕ) (is : number ≡ refusalOf (ledgerOf s) c) where
+  pub turn-refused : (number ≡ 0 → ⊥) → refusing s number ≡ turnOf s e
   unfolding turnOf sheetAfter enteredOf
   turn-refused some = rw (← is, ne-eqb number 0 some)
 
   turn-accepted : number ≡ 0 → (k : ℕ) → length (equationsIn (entered (ledgerOf s) c)) ≡ k
-      → holding (recordAfter s c) k ≡ turnOf s c
+      → holding (recordAfter s c) k ≡ turnOf s e
   unfolding turnOf sheetAfter enteredOf
   turn-accepted none k counts =
       rw (enter-accepted (ledgerOf s) c (sym is ∙ none), counts, ← is, eq-eqb number 0 none)
@@ -72,10 +72,10 @@ module _ (ws : List ℕ) (number : ℕ) (is : number ≡ refusalOf unopened (ope
     open-length = opening-length ws (true-of (isOpening ws) (accepted-yes unopened (opens ws) (sym is ∙ none) .0))
 
     pub open-turn : (s : Sheet) (m n : ℕ) → m ≡ numberAt ws 0 → n ≡ numberAt ws 1
-        → holding (record { modulus = m; unknowns = n; held = 0; cells = replicate room 0 }) 0 ≡ turnOf s (opens ws)
+        → holding (record { modulus = m; unknowns = n; held = 0; cells = replicate room 0 }) 0 ≡ turnOf s (opening ws)
     open-turn s m n modulus unknowns =
         ap₂ (λ (m n : ℕ). holding (record { modulus = m; unknowns = n; held = 0; cells = replicate room 0 }) 0) modulus unknowns
-        ∙ turn-accepted s (opens ws) number (open-is s) none 0 refl
+        ∙ turn-accepted s (opening ws) number (open-is s) none 0 refl
 
 -- ---- add
 
@@ -125,12 +125,12 @@ module _ (s : Sheet) (ws : List ℕ) (number : ℕ) (is : number ≡ refusalOf (
         unknowns = s .unknowns;
         held = s .held + 1;
         cells = take (filled s) (s .cells) ++ (part ++ drop (room - filled s) (drop (filled s) (s .cells)));
-      }) (s .held + 1) ≡ turnOf s (adds ws)
+      }) (s .held + 1) ≡ turnOf s (adding ws)
   add-turn {part} written =
       ap (λ (cells : List ℕ).
       holding (record { modulus = s .modulus; unknowns = s .unknowns; held = s .held + 1; cells = cells }) (s .held + 1))
       (written-behind room (filled s) (s .cells) (numbersOf ws) (fit .whole) written)
-      ∙ turn-accepted s (adds ws) number is none (s .held + 1)
+      ∙ turn-accepted s (adding ws) number is none (s .held + 1)
       (extended-counts (ledgerOf s) ws (true-of (isOpened (ledgerOf s)) (yes .0)) ∙ ap (λ (k : ℕ). k + 1) (held-is s (yes .0)))
 
 -- ---- strike
@@ -141,9 +141,9 @@ module _ (s : Sheet) (number : ℕ) (is : number ≡ refusalOf (ledgerOf s) stri
       let yes = accepted-yes (ledgerOf s) strikes (sym is ∙ none) in
       some-held s (yes .0) (yes .1 .0)
 
-  pub strike-turn : holding (withoutLast s) (s .held - 1) ≡ turnOf s strikes
+  pub strike-turn : holding (withoutLast s) (s .held - 1) ≡ turnOf s striking
   strike-turn =
-      turn-accepted s strikes number is none (s .held - 1)
+      turn-accepted s striking number is none (s .held - 1)
       (counts-struck s (accepted-yes (ledgerOf s) strikes (sym is ∙ none) .0))
 
 module _ (s : Sheet) (w number : ℕ) (is : number ≡ refusalOf (ledgerOf s) (strikesFromTape w)) (none : number ≡ 0) where
@@ -152,7 +152,7 @@ module _ (s : Sheet) (w number : ℕ) (is : number ≡ refusalOf (ledgerOf s) (s
       let yes = accepted-yes (ledgerOf s) (strikesFromTape w) (sym is ∙ none) in
       some-held s (yes .0) (yes .1 .1 .0)
 
-  pub tape-strike-turn : holding (withoutLast s) (s .held - 1) ≡ turnOf s (strikesFromTape w)
+  pub tape-strike-turn : holding (withoutLast s) (s .held - 1) ≡ turnOf s (strikingFromTape w)
   tape-strike-turn =
-      turn-accepted s (strikesFromTape w) number is none (s .held - 1)
+      turn-accepted s (strikingFromTape w) number is none (s .held - 1)
       (counts-struck s (accepted-yes (ledgerOf s) (strikesFromTape w) (sym is ∙ none) .0))

@@ -18,7 +18,7 @@ use Rattle.words.specs.Words.{numberOf}
 use Rattle.ledger.specs.Ledger.{Ledger, opened}
 use Rattle.ledger.specs.Shapes.{claimFrom}
 use Rattle.ledger.specs.Block.{answerWords}
-use Rattle.ledger.specs.Calls.{Call, answers, answersFromTape}
+use Rattle.ledger.specs.Calls.{Call, answers}
 use Rattle.ledger.specs.Questions.{refusalOf}
 use Rattle.ledger.specs.History.{ledger}
 use Rattle.ledger.proofs.Answer.{answer-fits}
@@ -29,7 +29,7 @@ use Rattle.ledger.proofs.Sound.{ledger-sound}
 use Rattle.sheet.specs.declared.marking.Marked.the-variants.{Pass}
 use Rattle.sheet.specs.declared.answering.Answered.the-variants.{Refused as Answered·Refused}
 use Rattle.sheet.specs.Record.{ledgerOf}
-use Rattle.sheet.specs.Calls.{turnOf, enteredOf, answeredOf, bufferAfter, markedOf}
+use Rattle.sheet.specs.Calls.{Asks, asking, askingFromTape, turnOf, enteredOf, answeredOf, bufferAfter, markedOf}
 use Rattle.sheet.specs.History.{after}
 use Rattle.sheet.specs.Promises.{NothingSolves, Shown, RightMark, Promised, Demand3, DecidedAlways, OwnBlockPasses}
 use Rattle.sheet.proofs.History.{after-reads, left-refused}
@@ -53,14 +53,14 @@ module _ (calls : List Call) (m n : ℕ) (es : List Equation) (holds : ledger ca
       answers-fit (opened m n es) refl old
       (subst (λ (l : Ledger). length (answerWords l) ≤ length old) holds h)
 
-  right : (c : Call) (old : List ℕ) → refusalOf (opened m n es) c ≡ 0
-      → Shown (answerWords (opened m n es)) old (answeredOf (ledgerOf (after calls)) c) (bufferAfter (ledgerOf (after calls)) c old)
-  right c old accepted =
-      subst (λ (l : Ledger). Shown (answerWords (opened m n es)) old (answeredOf l c) (bufferAfter l c old)) (sym reads)
-      (right-answer m n es positive (allowed .shaped) old c accepted)
+  right : {c : Call} (a : Asks c) (old : List ℕ) → refusalOf (opened m n es) c ≡ 0
+      → Shown (answerWords (opened m n es)) old (answeredOf (ledgerOf (after calls)) a) (bufferAfter (ledgerOf (after calls)) a old)
+  right a old accepted =
+      subst (λ (l : Ledger). Shown (answerWords (opened m n es)) old (answeredOf l a) (bufferAfter l a old)) (sym reads)
+      (right-answer m n es positive (allowed .shaped) old a accepted)
 
   short-refused : (old : List ℕ) → length old < length (answerWords (opened m n es))
-      → answeredOf (opened m n es) (answers old) ≡ Answered·Refused 8
+      → answeredOf (opened m n es) (asking old) ≡ Answered·Refused 8
   unfolding answeredOf refusalOf
   short-refused old h = rw (lt-leb (length (answerWords (opened m n es))) (length old) h)
 
@@ -75,10 +75,10 @@ module _ (calls : List Call) (m n : ℕ) (es : List Equation) (holds : ledger ca
         block = answerWords (opened m n es);
         right = right-block m n es positive (allowed .shaped);
         fits = answer-fits m n es positive (allowed .shaped) (allowed .equations) (allowed .unknowns);
-        answer = λ old h. right (answers old) old (fits old (subst (λ (l : Ledger). length (answerWords l) ≤ length old) (sym holds) h));
-        short = λ old h. ap (λ (l : Ledger). answeredOf l (answers old)) reads ∙ short-refused old h;
+        answer = λ old h. right (asking old) old (fits old (subst (λ (l : Ledger). length (answerWords l) ≤ length old) (sym holds) h));
+        short = λ old h. ap (λ (l : Ledger). answeredOf l (asking old)) reads ∙ short-refused old h;
         answerFromTape = λ w old plain room.
-            right (answersFromTape w) old
+            right (askingFromTape w) old
             (answers-word-plain (opened m n es) refl w (eqb→eq (numberOf w) 0 plain));
         mark = λ ws well.
             subst (λ (l : Ledger). RightMark m n es (claimFrom n ws) (markedOf l ws)) (sym reads)
@@ -87,12 +87,12 @@ module _ (calls : List Call) (m n : ℕ) (es : List Equation) (holds : ledger ca
 
   -- the block lies at the front of the buffer
   block-front : (old : List ℕ) → length (answerWords (ledger calls)) ≤ length old
-      → take (length (answerWords (ledger calls))) (bufferAfter (ledgerOf (after calls)) (answers old) old)
+      → take (length (answerWords (ledger calls))) (bufferAfter (ledgerOf (after calls)) (asking old) old)
       ≡ answerWords (opened m n es)
   block-front old h =
       over-front (length (answerWords (ledger calls))) (answerWords (opened m n es)) old
-      (ap (λ (l : Ledger). bufferAfter l (answers old) old) reads
-      ∙ buffer-accepted (opened m n es) (answers old) (fits old h) old)
+      (ap (λ (l : Ledger). bufferAfter l (asking old) old) reads
+      ∙ buffer-accepted (opened m n es) (asking old) (fits old h) old)
       (ap (λ (l : Ledger). length (answerWords l)) (sym holds))
 
   own-passes : (NothingSolves m n es → ⊥) → markedOf (opened m n es) (answerWords (opened m n es)) ≡ Pass
@@ -115,9 +115,9 @@ own-block-passes calls m n es old holds solvable h =
 
 -- ---- what the questions decide
 
-buffer-refused : (l : Ledger) (c : Call) (old : List ℕ) → 0 < refusalOf l c → bufferAfter l c old ≡ old
+buffer-refused : (l : Ledger) {c : Call} (a : Asks c) (old : List ℕ) → 0 < refusalOf l c → bufferAfter l a old ≡ old
 unfolding bufferAfter
-buffer-refused l c old h = rw (ne-eqb (refusalOf l c) 0 (λ e. omega arith))
+buffer-refused l {c} a old h = rw (ne-eqb (refusalOf l c) 0 (λ e. omega arith))
 
 pub decided-always : DecidedAlways
 unfolding turnOf enteredOf answeredOf markedOf
@@ -127,9 +127,9 @@ decided-always calls =
     λ c h. subst (λ (l : Ledger). 0 < refusalOf l c) (sym reads) h in
     record {
       reads = reads;
-      entering = λ c. ap (λ (l : Ledger). enteredOf l c) reads;
-      answering = λ c. ap (λ (l : Ledger). answeredOf l c) reads;
+      entering = λ c e. ap (λ (l : Ledger). enteredOf l e) reads;
+      answering = λ c a. ap (λ (l : Ledger). answeredOf l a) reads;
       marking = λ ws. ap (λ (l : Ledger). markedOf l ws) reads;
       sheetKept = λ c h. left-refused (after calls) c (refused c h);
-      bufferKept = λ c old h. buffer-refused (ledgerOf (after calls)) c old (refused c h);
+      bufferKept = λ c a old h. buffer-refused (ledgerOf (after calls)) a old (refused c h);
     }

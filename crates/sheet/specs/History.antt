@@ -4,15 +4,15 @@ use mathlib.Core.List.{List, [], _∷_}
 use Rattle.ledger.specs.Calls.{Call, opens, adds, strikes, answers, marks, strikesFromTape, answersFromTape, meaningless}
 use Rattle.sheet.specs.declared.Sheet.{Sheet}
 use Rattle.sheet.specs.Record.{fresh}
-use Rattle.sheet.specs.Calls.{turnOf}
+use Rattle.sheet.specs.Calls.{opening, adding, striking, strikingFromTape, turnOf}
 
 -- The sheet that a call returned or left. Answer and mark take the sheet by value and return none: the caller's sheet is
 -- then the one passed. So it is with a word on tape that picks no call, which calls nothing.
 abbrev pub left : Sheet → Call → Sheet
-left s (opens ws) = turnOf s (opens ws) .sheet
-left s (adds ws) = turnOf s (adds ws) .sheet
-left s strikes = turnOf s strikes .sheet
-left s (strikesFromTape w) = turnOf s (strikesFromTape w) .sheet
+left s (opens ws) = turnOf s (opening ws) .sheet
+left s (adds ws) = turnOf s (adding ws) .sheet
+left s strikes = turnOf s striking .sheet
+left s (strikesFromTape w) = turnOf s (strikingFromTape w) .sheet
 left s (answers buffer) = s
 left s (answersFromTape w) = s
 left s (marks ws) = s

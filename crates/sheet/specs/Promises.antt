@@ -25,7 +25,7 @@ use Rattle.ledger.specs.Allowed.{Allowed}
 use Rattle.ledger.specs.Shapes.{isClaim, entriesOf, claimFrom}
 use Rattle.ledger.specs.Block.{longestBlock, answerWords}
 use Rattle.ledger.specs.Marking.{claimPasses}
-use Rattle.ledger.specs.Calls.{Call, opens, answers, marks, answersFromTape}
+use Rattle.ledger.specs.Calls.{Call, opens, marks}
 use Rattle.ledger.specs.Questions.{plain, refusalOf}
 use Rattle.ledger.specs.History.{enter, ledger}
 use Rattle.sheet.specs.declared.Entered.the-variants.{Holds}
@@ -37,7 +37,7 @@ use Rattle.sheet.specs.declared.marking.Marked.{Marked}
 use Rattle.sheet.specs.declared.marking.Marked.the-variants.{Pass, Fail}
 use Rattle.sheet.specs.declared.marking.Marked.the-variants.{Refused as Marked·Refused}
 use Rattle.sheet.specs.Record.{ledgerOf}
-use Rattle.sheet.specs.Calls.{turnOf, answeredOf, bufferAfter, markedOf}
+use Rattle.sheet.specs.Calls.{Enters, Asks, asking, askingFromTape, turnOf, answeredOf, bufferAfter, markedOf}
 use Rattle.sheet.specs.History.{left, after}
 
 -- "refused calls anywhere in it and at least one opening accepted": by the questions, asked of the ledger at that place
@@ -95,14 +95,14 @@ pub record Promised (calls : List Call) : Type 0 where
   pub fits : length block ≤ longestBlock
   -- "An answer asked for then, into a long enough buffer": "Buffer long enough for this block? 8"
   pub answer : (old : List ℕ) → length block ≤ length old
-      → Shown block old (answeredOf (ledgerOf (after calls)) (answers old))
-      (bufferAfter (ledgerOf (after calls)) (answers old) old)
+      → Shown block old (answeredOf (ledgerOf (after calls)) (asking old))
+      (bufferAfter (ledgerOf (after calls)) (asking old) old)
   pub short : (old : List ℕ) → length old < length block
-      → answeredOf (ledgerOf (after calls)) (answers old) ≡ Answered·Refused 8
+      → answeredOf (ledgerOf (after calls)) (asking old) ≡ Answered·Refused 8
   -- the same from tape, with a word whose number is 0, into a buffer that every block fits: "on tape it always is" long enough
   pub answerFromTape : (w : ℕ) (old : List ℕ) → T (plain w) → length old ≡ longestBlock
-      → Shown block old (answeredOf (ledgerOf (after calls)) (answersFromTape w))
-      (bufferAfter (ledgerOf (after calls)) (answersFromTape w) old)
+      → Shown block old (answeredOf (ledgerOf (after calls)) (askingFromTape w))
+      (bufferAfter (ledgerOf (after calls)) (askingFromTape w) old)
   -- "And a well-formed claim marked then"
   pub mark : (ws : List ℕ) → WellFormed m n ws
       → RightMark m n es (claimFrom n ws) (markedOf (ledgerOf (after calls)) ws)
@@ -113,24 +113,24 @@ abbrev pub Demand3 : Type 0
 Demand3 = (calls : List Call) → OpeningAccepted calls → Promised calls
 
 -- What holds after every list, opened or not: the questions, asked of the ledger of that list, decide each call, and what
--- is refused changes nothing. `entering` is about open, add and strike, `answering` about answers.
+-- is refused changes nothing.
 pub record Decided (calls : List Call) : Type 0 where
   -- the sheet reads as the ledger that sees the calls alone
   pub reads : ledgerOf (after calls) ≡ ledger calls
   -- "Nothing is turned away except by a question in document 01, with that question's number"
-  pub entering : (c : Call)
-      → turnOf (after calls) c .entered
+  pub entering : (c : Call) (e : Enters c)
+      → turnOf (after calls) e .entered
       ≡ unlessRefused Entered·Refused (refusalOf (ledger calls) c) (Holds (length (equationsIn (enter (ledger calls) c))))
-  pub answering : (c : Call)
-      → answeredOf (ledgerOf (after calls)) c
+  pub answering : (c : Call) (a : Asks c)
+      → answeredOf (ledgerOf (after calls)) a
       ≡ unlessRefused Answered·Refused (refusalOf (ledger calls) c) (Wrote (length (answerWords (ledger calls))))
   pub marking : (ws : List ℕ)
       → markedOf (ledgerOf (after calls)) ws
       ≡ unlessRefused Marked·Refused (refusalOf (ledger calls) (marks ws)) (cond (claimPasses (ledger calls) ws) Pass Fail)
   -- "and then the sheet and all lent memory hold what they held"
   pub sheetKept : (c : Call) → 0 < refusalOf (ledger calls) c → left (after calls) c ≡ after calls
-  pub bufferKept : (c : Call) (old : List ℕ) → 0 < refusalOf (ledger calls) c
-      → bufferAfter (ledgerOf (after calls)) c old ≡ old
+  pub bufferKept : (c : Call) (a : Asks c) (old : List ℕ) → 0 < refusalOf (ledger calls) c
+      → bufferAfter (ledgerOf (after calls)) a old ≡ old
 
 abbrev pub DecidedAlways : Type 0
 DecidedAlways = (calls : List Call) → Decided calls
@@ -141,5 +141,5 @@ OwnBlockPasses =
     (calls : List Call) (m n : ℕ) (es : List Equation) (old : List ℕ)
     → ledger calls ≡ opened m n es → (NothingSolves m n es → ⊥) → length (answerWords (ledger calls)) ≤ length old
     → markedOf (ledgerOf (after calls))
-    (take (length (answerWords (ledger calls))) (bufferAfter (ledgerOf (after calls)) (answers old) old))
+    (take (length (answerWords (ledger calls))) (bufferAfter (ledgerOf (after calls)) (asking old) old))
     ≡ Pass

@@ -1,7 +1,6 @@
 // Adding an equation to a sheet.
 ghost use mathlib.Core.Path.{_≡_};
-ghost use Rattle.ledger.specs.Calls.{adds};
-ghost use Rattle.sheet.specs.Calls.{turnOf};
+ghost use Rattle.sheet.specs.Calls.{adding, turnOf};
 use crate::Entered;
 use crate::Sheet;
 use crate::Turn;
@@ -11,7 +10,7 @@ use words::reading::numbers;
 impl Sheet {
     // The equation goes behind the last, also where nothing solves those before it.
     pub fn add(self, words: &[u32]) -> Turn
-        ensures { λ r. ⌜ r ≡ turnOf self (adds (now (words .entry))) ⌝ }
+        ensures { λ r. ⌜ r ≡ turnOf self (adding (now (words .entry))) ⌝ }
     {
         let n = self.unknowns;
         let held = self.held;

@@ -9,9 +9,8 @@ ghost use Rattle.equations.specs.Vectors.{Below};
 ghost use Rattle.words.specs.Words.{numbersOfAKind, wordsOf, entryKind};
 ghost use Rattle.ledger.specs.Ledger.{isOpened};
 ghost use Rattle.ledger.specs.Block.{blockWords, answerWords};
-ghost use Rattle.ledger.specs.Calls.{answers, answersFromTape};
 ghost use Rattle.sheet.specs.Record.{ledgerOf};
-ghost use Rattle.sheet.specs.Calls.{answeredOf, bufferAfter};
+ghost use Rattle.sheet.specs.Calls.{asking, askingFromTape, answeredOf, bufferAfter};
 use crate::Sheet;
 use crate::asking::answer_word_refusal;
 use crate::asking::is_opened;
@@ -29,8 +28,8 @@ pub enum Answered {
 impl Sheet {
     // Head, starting vector and steps, or head and multipliers, at the front of the buffer.
     pub fn answer(self, buffer: &mut [u32]) -> Answered
-        ensures { λ r. ⌜ r ≡ answeredOf (ledgerOf self) (answers (now (buffer .entry))) ⌝ }
-        ensures { λ _. ⌜ now (buffer .exit) ≡ bufferAfter (ledgerOf self) (answers (now (buffer .entry))) (now (buffer .entry)) ⌝ }
+        ensures { λ r. ⌜ r ≡ answeredOf (ledgerOf self) (asking (now (buffer .entry))) ⌝ }
+        ensures { λ _. ⌜ now (buffer .exit) ≡ bufferAfter (ledgerOf self) (asking (now (buffer .entry))) (now (buffer .entry)) ⌝ }
     {
         if !is_opened(self) {
             return Answered::Refused(4);
@@ -48,8 +47,8 @@ impl Sheet {
 
     // An answer from tape, with its word, into a buffer that any block fits.
     pub fn answer_from_tape(self, word: u32, buffer: &mut [u32; 273]) -> Answered
-        ensures { λ r. ⌜ r ≡ answeredOf (ledgerOf self) (answersFromTape word) ⌝ }
-        ensures { λ _. ⌜ now (buffer .exit) ≡ bufferAfter (ledgerOf self) (answersFromTape word) (now (buffer .entry)) ⌝ }
+        ensures { λ r. ⌜ r ≡ answeredOf (ledgerOf self) (askingFromTape word) ⌝ }
+        ensures { λ _. ⌜ now (buffer .exit) ≡ bufferAfter (ledgerOf self) (askingFromTape word) (now (buffer .entry)) ⌝ }
     {
         let refusal = answer_word_refusal(self, word);
         if refusal != 0 {

@@ -1,7 +1,6 @@
 // Opening a sheet.
 ghost use mathlib.Core.Path.{_≡_};
-ghost use Rattle.ledger.specs.Calls.{opens};
-ghost use Rattle.sheet.specs.Calls.{turnOf};
+ghost use Rattle.sheet.specs.Calls.{opening, turnOf};
 use crate::Entered;
 use crate::Sheet;
 use crate::Turn;
@@ -11,7 +10,7 @@ use words::reading::number;
 impl Sheet {
     // What the sheet held before is gone; a refused opening keeps it.
     pub fn open(self, words: &[u32]) -> Turn
-        ensures { λ r. ⌜ r ≡ turnOf self (opens (now (words .entry))) ⌝ }
+        ensures { λ r. ⌜ r ≡ turnOf self (opening (now (words .entry))) ⌝ }
     {
         let refusal = open_refusal(words);
         if refusal != 0 {

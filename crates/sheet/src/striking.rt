@@ -1,9 +1,8 @@
 // Striking the last equation of a sheet.
 ghost use mathlib.Core.Path.{_≡_};
 ghost use Prim.Native.Nat.{_-_, _<_};
-ghost use Rattle.ledger.specs.Calls.{strikes, strikesFromTape};
 ghost use Rattle.sheet.specs.Record.{withoutLast};
-ghost use Rattle.sheet.specs.Calls.{turnOf};
+ghost use Rattle.sheet.specs.Calls.{striking, strikingFromTape, turnOf};
 use crate::Entered;
 use crate::Sheet;
 use crate::Turn;
@@ -12,7 +11,7 @@ use crate::asking::strike_word_refusal;
 
 impl Sheet {
     pub fn strike(self) -> Turn
-        ensures { λ r. ⌜ r ≡ turnOf self strikes ⌝ }
+        ensures { λ r. ⌜ r ≡ turnOf self striking ⌝ }
     {
         let refusal = strike_refusal(self);
         if refusal != 0 {
@@ -23,7 +22,7 @@ impl Sheet {
 
     // A strike from tape, with its word.
     pub fn strike_from_tape(self, word: u32) -> Turn
-        ensures { λ r. ⌜ r ≡ turnOf self (strikesFromTape word) ⌝ }
+        ensures { λ r. ⌜ r ≡ turnOf self (strikingFromTape word) ⌝ }
     {
         let refusal = strike_word_refusal(self, word);
         if refusal != 0 {

@@ -27,7 +27,7 @@ use Rattle.sheet.specs.declared.Sheet.{Sheet}
 use Rattle.sheet.specs.declared.answering.Answered.{Answered}
 use Rattle.sheet.specs.declared.answering.Answered.the-variants.{Wrote, Refused}
 use Rattle.sheet.specs.Record.{linesIn, ledgerOf}
-use Rattle.sheet.specs.Calls.{answeredOf, bufferAfter}
+use Rattle.sheet.specs.Calls.{askingFromTape, answeredOf, bufferAfter}
 use Rattle.sheet.proofs.Reading.{readable-fit, opened-readable, length-lines, ledger-opened}
 use Rattle.tape.specs.Lines.{refusedLine, blockLines, acceptedLines, callLines}
 use Rattle.tape.specs.Reader.{linesOn, Block}
@@ -92,7 +92,7 @@ module _ (s : Sheet) (w : ℕ) where
   abbrev says : Bool → Answered
   says b = cond b (Wrote (length (answerWords (ledgerOf s)))) (Refused (refusalOf (ledgerOf s) (answersFromTape w)))
 
-  module _ {answered : Answered} (is : answered ≡ answeredOf (ledgerOf s) (answersFromTape w)) where
+  module _ {answered : Answered} (is : answered ≡ answeredOf (ledgerOf s) (askingFromTape w)) where
     said-wrote : {k : ℕ} → answered ≡ Wrote k
         → (refusalOf (ledgerOf s) (answersFromTape w) ≡ 0) × (k ≡ length (answerWords (ledgerOf s)))
     unfolding answeredOf
@@ -114,7 +114,7 @@ module _ (s : Sheet) (w : ℕ) where
         go false h = let same : r ≡ refusalOf (ledgerOf s) (answersFromTape w) = cc in ap refusedLine same
 
     pub wrote : {n k : ℕ} {new : List ℕ} (old : List ℕ) → answered ≡ Wrote k → n ≡ unknownsOf (ledgerOf s)
-        → new ≡ bufferAfter (ledgerOf s) (answersFromTape w) old → Given s w n k new
+        → new ≡ bufferAfter (ledgerOf s) (askingFromTape w) old → Given s w n k new
     unfolding bufferAfter
     wrote {n} {k} {new} old said same after =
         let accepted = said-wrote said in

@@ -34,7 +34,7 @@ use Rattle.sheet.specs.declared.marking.Marked.{Marked}
 use Rattle.sheet.specs.declared.marking.Marked.the-variants.{Pass, Fail}
 use Rattle.sheet.specs.declared.marking.Marked.the-variants.{Refused as Marked·Refused}
 use Rattle.sheet.specs.Record.{ledgerOf}
-use Rattle.sheet.specs.Calls.{enteredOf, turnOf, markedOf}
+use Rattle.sheet.specs.Calls.{Enters, enteredOf, turnOf, markedOf}
 use Rattle.sheet.specs.History.{left}
 use Rattle.sheet.proofs.Few.{equations-few}
 use Rattle.sheet.proofs.History.{left-reads}
@@ -59,7 +59,7 @@ passes-or-fails true true r = refl
 passes-or-fails true false r = refl
 passes-or-fails false right r = refl
 
-module _ (s : Sheet) (c : Call) {turn : Turn} (is : turn ≡ turnOf s c) where
+module _ (s : Sheet) {c : Call} (e : Enters c) {turn : Turn} (is : turn ≡ turnOf s e) where
   pub entered-told : (name : List ℕ) → acceptedLines (ledgerOf s) c ≡ lineOf name (heldAfter (ledgerOf s) c)
       → enteredLine name (turn .entered) ≡ linesOn s c
   unfolding turnOf enteredOf callLines

@@ -5,7 +5,7 @@ use native.Mathlib.Omega.{arith}
 use borrow.Author.Needs.{needs}
 use denote.Ref.{now}
 use lib.ListN.{length}
-use Rattle.ledger.specs.Calls.{adds}
+use Rattle.sheet.specs.Calls.{adding}
 use Rattle.sheet.proofs.Entering.{turn-refused, add-unknowns, add-under, add-fits, add-room, add-turn}
 use Rattle.sheet.proofs.Sheet.add.Statement.{statement}
 use Rattle.sheet.proofs.Sheet.add.Tie as tie
@@ -21,7 +21,7 @@ returns c =
     let p = c .before .before .before .before .args in
     let asked = c .before .before .add-refusal in
     c .refused .ensures
-    ∙ turn-refused (p .self) (adds (now (p .words))) (asked .result) (asked .ensures) (c .before .if1 .taken)
+    ∙ turn-refused (p .self) (adding (now (p .words))) (asked .result) (asked .ensures) (c .before .if1 .taken)
 
 add-at : tie.Need-add-at
 add-at c =

@@ -6,10 +6,10 @@ use borrow.Author.Tests.{not-true, not-false}
 use denote.Ref.{now}
 use lib.ListN.{length}
 use lib.Seq.{length-take-le}
-use Rattle.ledger.specs.Calls.{answers}
 use Rattle.ledger.proofs.Questions.{answers-unopened}
 use Rattle.ledger.proofs.Refusals.{answers-short, answers-fit}
 use Rattle.sheet.specs.Record.{ledgerOf}
+use Rattle.sheet.specs.Calls.{asking}
 use Rattle.sheet.proofs.BlockGiven.{answered-refused, buffer-refused, answer-size, answered-wrote, buffer-wrote}
 use Rattle.sheet.proofs.Sheet.answer.Statement.{statement}
 use Rattle.sheet.proofs.Sheet.answer.Tie as tie
@@ -23,7 +23,7 @@ returns c =
     let l = ledgerOf (p .self) in
     let old = now (p .buffer) in
     let is = answers-unopened l (sym (c .before .is-opened .ensures) ∙ not-true _ (c .if1 .taken)) old in
-    (answered-refused l (answers old) 4 is (λ e. omega arith), buffer-refused l (answers old) 4 is (λ e. omega arith) old)
+    (answered-refused l (asking old) 4 is (λ e. omega arith), buffer-refused l (asking old) 4 is (λ e. omega arith) old)
 
 block-of-requires : tie.Need-block-of-requires
 block-of-requires c κs = sym (c .before .is-opened .ensures) ∙ not-false _ (c .if1 .left)
@@ -44,7 +44,7 @@ returns-2 c =
     let whole = made .ensures .1 .0 .0 in
     let is = answers-short l (sym (c .before .before .before .is-opened .ensures) ∙ not-false _ (c .before .before .if1 .left)) old
     (omega (arith, answer-size l (b .head) (b .len) (b .numbers) whole (made .ensures .0))) in
-    (answered-refused l (answers old) 8 is (λ e. omega arith), buffer-refused l (answers old) 8 is (λ e. omega arith) old)
+    (answered-refused l (asking old) 8 is (λ e. omega arith), buffer-refused l (asking old) 8 is (λ e. omega arith) old)
 
 array-share-prefix-numbers : tie.Need-array-share-prefix-numbers
 array-share-prefix-numbers c = c .before .before .block-of .ensures .1 .0 .0
@@ -79,8 +79,8 @@ returns-3 c =
     let whole = made .ensures .1 .0 .0 in
     let is = answers-fit l (sym (c .before .before .before .before .before .before .before .before .before .is-opened .ensures) ∙ not-false _ (c .before .before .before .before .before .before .before .before .if1 .left)) old
     (omega (arith, answer-size l (b .head) (b .len) (b .numbers) whole (made .ensures .0))) in (
-      answered-wrote l (b .head) (b .len) (b .numbers) whole (made .ensures .0) (answers old) is,
-      buffer-wrote l (b .head) (b .len) (b .numbers) whole (made .ensures .0) (answers old) is old
+      answered-wrote l (b .head) (b .len) (b .numbers) whole (made .ensures .0) (asking old) is,
+      buffer-wrote l (b .head) (b .len) (b .numbers) whole (made .ensures .0) (asking old) is old
           (c .before .before .write-block .ensures),
     )
 

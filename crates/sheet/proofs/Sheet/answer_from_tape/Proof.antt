@@ -3,8 +3,8 @@ use mathlib.Core.Path.{_≡_, sym, _∙_}
 use borrow.Author.Needs.{needs}
 use denote.Ref.{now}
 use lib.ListN.{length}
-use Rattle.ledger.specs.Calls.{answersFromTape}
 use Rattle.sheet.specs.Record.{ledgerOf}
+use Rattle.sheet.specs.Calls.{askingFromTape}
 use Rattle.sheet.proofs.BlockGiven.{answered-refused, buffer-refused, tape-answered, tape-buffer}
 use Rattle.sheet.proofs.Sheet.answer_from_tape.Statement.{statement}
 use Rattle.sheet.proofs.Sheet.answer_from_tape.Tie as tie
@@ -17,8 +17,8 @@ returns c =
     let p = c .before .before .args in
     let l = ledgerOf (p .self) in
     let asked = c .before .answer-word-refusal in (
-      answered-refused l (answersFromTape (p .word)) (asked .result) (sym (asked .ensures)) (c .if1 .taken),
-      buffer-refused l (answersFromTape (p .word)) (asked .result) (sym (asked .ensures)) (c .if1 .taken) (now (p .buffer)),
+      answered-refused l (askingFromTape (p .word)) (asked .result) (sym (asked .ensures)) (c .if1 .taken),
+      buffer-refused l (askingFromTape (p .word)) (asked .result) (sym (asked .ensures)) (c .if1 .taken) (now (p .buffer)),
     )
 
 answer-requires : tie.Need-answer-requires

@@ -4,7 +4,7 @@ use mathlib.Core.Path.{_∙_}
 use native.Mathlib.Omega.{arith}
 use borrow.Author.Needs.{needs}
 use denote.Ref.{now}
-use Rattle.ledger.specs.Calls.{opens}
+use Rattle.sheet.specs.Calls.{opening}
 use Rattle.sheet.proofs.Entering.{turn-refused, open-is, open-length, open-turn}
 use Rattle.sheet.proofs.Sheet.open.Statement.{statement}
 use Rattle.sheet.proofs.Sheet.open.Tie as tie
@@ -20,7 +20,7 @@ returns c =
     let p = c .before .before .before .before .args in
     let asked = c .before .before .open-refusal in
     c .refused .ensures
-    ∙ turn-refused (p .self) (opens (now (p .words))) (asked .result)
+    ∙ turn-refused (p .self) (opening (now (p .words))) (asked .result)
     (open-is (now (p .words)) (asked .result) (asked .ensures) (p .self)) (c .before .if1 .taken)
 
 shared-slice-read-number : tie.Need-shared-slice-read-number

@@ -2,7 +2,7 @@
 -- equation to strike.
 use mathlib.Core.Path.{_∙_}
 use borrow.Author.Needs.{needs}
-use Rattle.ledger.specs.Calls.{strikes}
+use Rattle.sheet.specs.Calls.{striking}
 use Rattle.sheet.proofs.Entering.{turn-refused, strike-some, strike-turn}
 use Rattle.sheet.proofs.Sheet.strike.Statement.{statement}
 use Rattle.sheet.proofs.Sheet.strike.Tie as tie
@@ -17,7 +17,7 @@ returns : tie.Need-returns
 returns c =
     let asked = c .before .before .strike-refusal in
     c .refused .ensures
-    ∙ turn-refused (c .before .before .before .args .self) strikes (asked .result) (asked .ensures) (c .before .if1 .taken)
+    ∙ turn-refused (c .before .before .before .args .self) striking (asked .result) (asked .ensures) (c .before .if1 .taken)
 
 shortened-requires : tie.Need-shortened-requires
 shortened-requires c κs =

@@ -1,7 +1,7 @@
 -- `Sheet::strike_from_tape` meets its contract, as `Sheet::strike` does, with one question more.
 use mathlib.Core.Path.{_∙_}
 use borrow.Author.Needs.{needs}
-use Rattle.ledger.specs.Calls.{strikesFromTape}
+use Rattle.sheet.specs.Calls.{strikingFromTape}
 use Rattle.sheet.proofs.Entering.{turn-refused, tape-strike-some, tape-strike-turn}
 use Rattle.sheet.proofs.Sheet.strike_from_tape.Statement.{statement}
 use Rattle.sheet.proofs.Sheet.strike_from_tape.Tie as tie
@@ -17,7 +17,7 @@ returns c =
     let p = c .before .before .before .args in
     let asked = c .before .before .strike-word-refusal in
     c .refused .ensures
-    ∙ turn-refused (p .self) (strikesFromTape (p .word)) (asked .result) (asked .ensures) (c .before .if1 .taken)
+    ∙ turn-refused (p .self) (strikingFromTape (p .word)) (asked .result) (asked .ensures) (c .before .if1 .taken)
 
 shortened-requires : tie.Need-shortened-requires
 shortened-requires c κs =

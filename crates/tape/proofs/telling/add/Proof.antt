@@ -3,6 +3,7 @@ use mathlib.Core.Path.{refl, ap}
 use denote.Ref.{now}
 use Rattle.ledger.specs.Calls.{adds}
 use Rattle.sheet.specs.declared.Turn.{Turn}
+use Rattle.sheet.specs.Calls.{adding}
 use Rattle.tape.specs.Ascii.{bytesOf}
 use Rattle.tape.proofs.Told.{told, entered-told, held-few}
 use borrow.Author.Needs.{needs}
@@ -19,7 +20,7 @@ entered-line-requires : tie.Need-entered-line-requires
 entered-line-requires c κs =
     let turn = c .before .before .before .add in
     let a = c .before .before .before .before .before .before .args in
-    (search needs, held-few (a .sheet) (adds (now (a .words))) (turn .ensures), search needs)
+    (search needs, held-few (a .sheet) (adding (now (a .words))) (turn .ensures), search needs)
 
 same-length : tie.Need-same-length
 same-length c = search needs
@@ -31,7 +32,7 @@ returns c =
     let turn = c .before .before .before .before .before .before .add in
     let line = c .before .before .entered-line in
     told (a .sheet) call (a .out .now) (ap (λ (t : Turn). t .sheet) (turn .ensures))
-    (entered-told (a .sheet) call (turn .ensures) (bytesOf "added") refl) (line .ensures .0) (line .ensures .1)
+    (entered-told (a .sheet) (adding (now (a .words))) (turn .ensures) (bytesOf "added") refl) (line .ensures .0) (line .ensures .1)
 
 pub add-spec : {M : Type 1} → statement M
 add-spec =

@@ -7,6 +7,7 @@ use denote.Ref.{now}
 use Rattle.ledger.specs.Calls.{opens}
 use Rattle.sheet.specs.declared.Turn.{Turn}
 use Rattle.sheet.specs.Record.{ledgerOf}
+use Rattle.sheet.specs.Calls.{opening}
 use Rattle.tape.specs.Ascii.{bytesOf}
 use Rattle.tape.specs.Text.{lineOf}
 use Rattle.tape.proofs.Told.{told, said-holds, said-refused, accepted-told, opening-two}
@@ -24,7 +25,7 @@ shared-slice-read-number : tie.Need-shared-slice-read-number
 shared-slice-read-number c =
     let a = c .before .before .before .before .before .before .before .args in
     let turn = c .before .before .before .before .«open» in
-    let none = said-holds (a .sheet) (opens (now (a .words))) (turn .ensures) (c .before .enum-told .given .1) in
+    let none = said-holds (a .sheet) (opening (now (a .words))) (turn .ensures) (c .before .enum-told .given .1) in
     omega (arith, opening-two (ledgerOf (a .sheet)) (now (a .words)) none)
 
 number-requires : tie.Need-number-requires
@@ -34,7 +35,7 @@ shared-slice-read-number-2 : tie.Need-shared-slice-read-number-2
 shared-slice-read-number-2 c =
     let a = c .before .before .before .before .before .before .before .before .before .args in
     let turn = c .before .before .before .before .before .before .«open» in
-    let none = said-holds (a .sheet) (opens (now (a .words))) (turn .ensures) (c .before .before .before .enum-told .given .1) in
+    let none = said-holds (a .sheet) (opening (now (a .words))) (turn .ensures) (c .before .before .before .enum-told .given .1) in
     omega (arith, opening-two (ledgerOf (a .sheet)) (now (a .words)) none)
 
 number-requires-2 : tie.Need-number-requires-2
@@ -68,7 +69,7 @@ returns c =
     let second = c .before .before .before .before .before .before .number2 in
     let line = c .before .before .line in
     let both = ap₂ (λ (m n : ℕ). lineOf (bytesOf "open") (m ∷ n ∷ [])) (first .ensures) (second .ensures) in
-    let none = said-holds (a .sheet) call (turn .ensures) said in
+    let none = said-holds (a .sheet) (opening (now (a .words))) (turn .ensures) said in
     told (a .sheet) call (a .out .now) (ap (λ (t : Turn). t .sheet) (turn .ensures))
     (both ∙ accepted-told (ledgerOf (a .sheet)) call none) (line .ensures .0 .0) (line .ensures .1)
 
@@ -83,7 +84,7 @@ returns-2 c =
     let said = c .before .before .before .before .before .entered .given .1 in
     let line = c .before .before .refused in
     told (a .sheet) call (a .out .now) (ap (λ (t : Turn). t .sheet) (turn .ensures))
-    (said-refused (a .sheet) call (turn .ensures) said) (line .ensures .0) (line .ensures .1)
+    (said-refused (a .sheet) (opening (now (a .words))) (turn .ensures) said) (line .ensures .0) (line .ensures .1)
 
 pub open-spec : {M : Type 1} → statement M
 open-spec =

@@ -2,6 +2,7 @@
 use mathlib.Core.Path.{refl, ap}
 use Rattle.ledger.specs.Calls.{strikesFromTape}
 use Rattle.sheet.specs.declared.Turn.{Turn}
+use Rattle.sheet.specs.Calls.{strikingFromTape}
 use Rattle.tape.specs.Ascii.{bytesOf}
 use Rattle.tape.proofs.Told.{told, entered-told, held-few}
 use borrow.Author.Needs.{needs}
@@ -18,7 +19,7 @@ entered-line-requires : tie.Need-entered-line-requires
 entered-line-requires c κs =
     let turn = c .before .before .before .strike-from-tape in
     let a = c .before .before .before .before .before .args in
-    (search needs, held-few (a .sheet) (strikesFromTape (a .word)) (turn .ensures), search needs)
+    (search needs, held-few (a .sheet) (strikingFromTape (a .word)) (turn .ensures), search needs)
 
 same-length : tie.Need-same-length
 same-length c = search needs
@@ -30,7 +31,7 @@ returns c =
     let turn = c .before .before .before .before .before .before .strike-from-tape in
     let line = c .before .before .entered-line in
     told (a .sheet) call (a .out .now) (ap (λ (t : Turn). t .sheet) (turn .ensures))
-    (entered-told (a .sheet) call (turn .ensures) (bytesOf "struck") refl) (line .ensures .0) (line .ensures .1)
+    (entered-told (a .sheet) (strikingFromTape (a .word)) (turn .ensures) (bytesOf "struck") refl) (line .ensures .0) (line .ensures .1)
 
 pub strike-spec : {M : Type 1} → statement M
 strike-spec =
