@@ -1,6 +1,7 @@
 -- Packed rows, one row more.
 --   rows-split       the first row and the rows behind it
 --   rows-behind      a row in front of packed rows
+--   rows-whole       the rows of a list that is as long as they are all of it
 --   triangle-front   the first row lies in the list
 --   triangle-behind  and this is what lies behind it
 --   triangle-last    one row more at the end
@@ -8,11 +9,11 @@
 --   drop-row         what lies behind i rows, without the next one
 --   clear-next       a blank row in front of a cleared basis
 --   length-zeros     how many numbers zeros are
-use mathlib.Core.Path.{_≡_, sym, ap, ap₂, _∙_}
-use mathlib.Core.List.{List, _∷_, _++_}
+use mathlib.Core.Path.{_≡_, refl, sym, ap, ap₂, _∙_}
+use mathlib.Core.List.{List, [], _∷_, _++_, flatten}
 use Prim.Native.Nat.{ℕ, zero, suc, pred, _+_, _-_, _<_, _≤_}
 use native.Mathlib.Omega.{arith}
-use lib.ListN.{length, take, drop, replicate, length-replicate}
+use lib.ListN.{length, take, drop, replicate, length-drop, length-replicate, take-append-drop}
 use lib.Seq.{take-at, drop-at, drop-drop, length-take-le}
 use Rattle.elimination.specs.Basis.{empty}
 use Rattle.tableau.specs.Packed.{rows, triangle}
@@ -28,6 +29,14 @@ pub rows-behind : (w l : ℕ) (r x : List ℕ) → 0 < w → length r ≡ l → 
 rows-behind w l r x h g =
     rows-split w l (r ++ x) h
     ∙ ap₂ {C = List (List ℕ)} (λ a c. a ∷ rows (w - 1) (l - 1) c) (take-at r x l g) (drop-at r x l g)
+
+pub rows-whole : (w l : ℕ) (s : List ℕ) → length s ≡ triangle w l → flatten (rows w l s) ≡ s
+unfolding flatten
+rows-whole zero l [] h = refl
+rows-whole zero l (x ∷ s) h = absurd (omega arith)
+rows-whole (suc w) l s h =
+    ap (λ (z : List ℕ). take l s ++ z) (rows-whole w (pred l) (drop l s) (omega (arith, length-drop l s)))
+    ∙ take-append-drop l s
 
 pub triangle-front : (w l : ℕ) → 0 < w → l ≤ triangle w l
 triangle-front zero l h = absurd (omega arith)

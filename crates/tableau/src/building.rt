@@ -71,7 +71,8 @@ fn insert_line(
     insert(basis, &mut out[..len], m, inverse, n + 1);
 }
 
-// The basis of the lines that lie in `numbers`, n + 1 numbers each, put in one after the other. What is lent is zeros.
+// The basis of the lines that lie in `numbers`, n + 1 numbers each, put in one after the other. What is lent is zeros, just as many
+// as the rows have numbers: who knows the rows knows all that is lent (`rows-whole` of proofs/Packed.antt).
 pub fn fill(basis: &mut [u32], numbers: &[u32], m: u32, n: usize, k: usize, plain: bool)
     requires { ⌜ Loadable plain m k × (n ≤ 16) × (k ≤ 16) ⌝ }
     requires { ⌜ (now basis ≡ replicate (triangle (n + 1) (n + 1 + k)) 0) × Below m (now numbers) ⌝ }
@@ -91,7 +92,8 @@ pub fn fill(basis: &mut [u32], numbers: &[u32], m: u32, n: usize, k: usize, plai
     }
 }
 
-// The tableau of the equations that lie in `lines`, n coefficients and a right side each, with k carried columns.
+// The tableau of the equations that lie in `lines`, n coefficients and a right side each, with k carried columns. Here too the rows
+// are all that is lent.
 pub fn build(basis: &mut [u32], lines: &[u32], m: u32, n: usize, k: usize)
     requires { ⌜ (1 < m) × (n ≤ 16) × (k ≤ 16) × (now basis ≡ replicate (triangle (n + 1) (n + 1 + k)) 0) × Below m (now lines) ⌝ }
     ensures { λ _. ⌜ rows (n + 1) (n + 1 + k) (now (basis .exit)) ≡ tableau m n k (equationsOf n (now (lines .entry))) ⌝ }

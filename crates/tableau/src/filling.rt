@@ -7,7 +7,7 @@ ghost use Rattle.elimination.specs.Tableau.{turned, unit};
 use slices::filling::zeros;
 
 // A 1 at place i, which may lie behind the end: then there is none.
-pub fn unit_vector(out: &mut [u32], i: usize)
+pub(crate) fn unit_vector(out: &mut [u32], i: usize)
     ensures { λ _. ⌜ now (out .exit) ≡ unit (length (now (out .entry))) i ⌝ }
 {
     zeros(out);

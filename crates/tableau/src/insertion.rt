@@ -53,7 +53,7 @@ fn remainder(v: u32, d: u32) -> u32
 
 // One column; whether the line is used up. Nothing is done where the line's entry is 0, and the row stays where its
 // pivot divides the entry.
-pub fn insert_at(row: &mut [u32], line: &mut [u32], m: u32, inverse: u64) -> bool
+fn insert_at(row: &mut [u32], line: &mut [u32], m: u32, inverse: u64) -> bool
     requires { ⌜ (0 < length (now row)) × (length (now row) ≡ length (now line)) × RowKept m (now row) × Below m (now line)
         × (inverse ≡ inverseOf m) ⌝ }
     ensures { λ r. ⌜ (r ≡ false → Inserted m (now (row .entry)) (now (line .entry)) (now (row .exit)) (now (line .exit))) ⌝ }
@@ -91,8 +91,9 @@ pub fn insert_at(row: &mut [u32], line: &mut [u32], m: u32, inverse: u64) -> boo
 }
 
 // The walk over w columns. The row of column j begins at `at`; the rows from there on and the line from its entry j on are again
-// a basis and a line.
-pub fn insert(basis: &mut [u32], line: &mut [u32], m: u32, inverse: u64, w: usize)
+// a basis and a line. The line is scratch: its caller lends a copy and does not look at it again, so no word is said of what is
+// left of it.
+pub(crate) fn insert(basis: &mut [u32], line: &mut [u32], m: u32, inverse: u64, w: usize)
     requires { ⌜ (w ≤ length (now line)) × (length (now basis) ≡ triangle w (length (now line))) × (inverse ≡ inverseOf m) ⌝ }
     requires { ⌜ Kept m (rows w (length (now line)) (now basis)) × Below m (now line) ⌝ }
     ensures { λ _. ⌜ rows w (length (now (line .entry))) (now (basis .exit))

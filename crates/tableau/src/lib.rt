@@ -1,7 +1,7 @@
 // The elimination of the crate `elimination`, as code over packed rows in lent slices.
 pub mod building;
 pub mod filling;
-pub mod insertion;
-pub mod line;
+mod insertion;
+mod line;
 pub mod products;
 pub mod substitution;

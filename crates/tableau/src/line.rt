@@ -20,7 +20,7 @@ fn minus(p: u32, u: u32, a: u32, b: u32, m: u32) -> u32
 }
 
 // line ← p·row - line. One product for each entry.
-pub fn reduce(row: &[u32], line: &mut [u32], m: u32, inverse: u64, p: u32)
+pub(crate) fn reduce(row: &[u32], line: &mut [u32], m: u32, inverse: u64, p: u32)
     requires { ⌜ (p < m) × (length (now row) ≡ length (now line)) × Below m (now line) × (inverse ≡ inverseOf m) ⌝ }
     ensures { λ _. ⌜ now (line .exit) ≡ combine m p (negative m 1 % m) (now (row .entry)) (now (line .entry)) ⌝ }
 {
@@ -34,7 +34,7 @@ pub fn reduce(row: &[u32], line: &mut [u32], m: u32, inverse: u64, p: u32)
 }
 
 // row ← s·row + t·line and line ← p·row + n·line, both from the old ones.
-pub fn combine_both(
+pub(crate) fn combine_both(
     row: &mut [u32],
     line: &mut [u32],
     m: u32,
@@ -66,7 +66,7 @@ pub fn combine_both(
 }
 
 // row ← t·line: a row of zeros combined with the line. One product for each entry.
-pub fn multiple(row: &mut [u32], line: &[u32], m: u32, inverse: u64, t: u32)
+pub(crate) fn multiple(row: &mut [u32], line: &[u32], m: u32, inverse: u64, t: u32)
     requires { ⌜ (t < m) × (length (now row) ≡ length (now line)) × (inverse ≡ inverseOf m) ⌝ }
     ensures { λ _. ⌜ now (row .exit) ≡ combine m 0 t (now (line .entry)) (now (line .entry)) ⌝ }
 {
@@ -80,7 +80,7 @@ pub fn multiple(row: &mut [u32], line: &[u32], m: u32, inverse: u64, t: u32)
 }
 
 // line ← n·line. One product for each entry.
-pub fn scale(line: &mut [u32], m: u32, inverse: u64, n: u32)
+pub(crate) fn scale(line: &mut [u32], m: u32, inverse: u64, n: u32)
     requires { ⌜ (n < m) × (inverse ≡ inverseOf m) ⌝ }
     ensures { λ _. ⌜ now (line .exit) ≡ combine m 0 n (now (line .entry)) (now (line .entry)) ⌝ }
 {
