@@ -2,15 +2,15 @@
 --   read-start                      where the constant's pivot is m, the starting vector
 --   read-steps                      the steps at the last i places
 --   vectors-solved, vectors-none    starting vector and steps together
---   block-solved, block-refuted     the block, from the vectors that are written and from the multipliers
+--   block-solved, block-refuted     the block, from r vectors and from the multipliers
 use mathlib.Core.Path.{_≡_, refl, sym, ap, ap₂, _∙_}
 use mathlib.Core.Logic.{_⊎_, inl, inr}
 use mathlib.Core.Bool.{true, false, cond}
 use mathlib.Core.List.{List, [], _∷_, flatten}
 use mathlib.Core.Option.{Option, none, some}
-use Prim.Native.Nat.{ℕ, zero, suc, _+_, _-_, _*_, _/_, _<_}
+use Prim.Native.Nat.{ℕ, zero, suc, _+_, _-_, _/_, _<_}
 use native.Mathlib.Omega.{arith}
-use lib.ListN.{length, take, replicate}
+use lib.ListN.{length, replicate}
 use lib.Dec.{eqb}
 use borrow.Author.Tests.{eqb-true, eqb-false}
 use Rattle.equations.specs.Equation.{Equation, Shaped}
@@ -24,7 +24,7 @@ use Rattle.elimination.proofs.Tableau.{length-tableau, good-tableau}
 use Rattle.elimination.proofs.Answer.{answer-start, answer-none, answer-step, answer-no-step}
 use Rattle.elimination.specs.Multipliers.{multipliersOf}
 use Rattle.system.specs.Block.{blockWith, blockOf}
-use Rattle.system.specs.Model.Reading.{readVector, readStep, readSteps, readVectors, Laid, vectorsWith, answerVectors}
+use Rattle.system.specs.Model.Reading.{readVector, readStep, readSteps, readVectors, vectorsWith, answerVectors}
 
 -- the same vector, in the tableau's words
 step-vector : (m n i j e : ℕ) (B : List (List ℕ)) → i + suc j ≡ n → tableauStep m i j B e ≡ readVector m n B i e
@@ -92,13 +92,13 @@ no-vectors-head : (o : Option (List ℕ)) (ss : List (List ℕ)) (ks : List ℕ)
 no-vectors-head none ss ks h = refl
 no-vectors-head (some v) ss ks h = absurd (omega arith)
 
-module _ (m n r : ℕ) (es : List Equation) (out : List ℕ) (w : Laid n (answerVectors m n es) out r) where
-  pub block-solved : 0 < r → r ∷ take (r * n) out ≡ blockOf m n es
+module _ (m n r : ℕ) (es : List Equation) (are : r ≡ length (answerVectors m n es)) where
+  pub block-solved : 0 < r → r ∷ flatten (answerVectors m n es) ≡ blockOf m n es
   unfolding blockOf answerVectors
   block-solved h =
-      ap₂ (λ (k : ℕ) (z : List ℕ). k ∷ z) (w .count) (w .front)
-      ∙ vectors-head (startOf m n es) (stepsOf m n es) (multipliersOf m n es) (omega (arith, w .count))
+      ap {B = List ℕ} (λ k. k ∷ flatten (answerVectors m n es)) are
+      ∙ vectors-head (startOf m n es) (stepsOf m n es) (multipliersOf m n es) (omega arith)
 
   pub block-refuted : r ≡ 0 → 0 ∷ multipliersOf m n es ≡ blockOf m n es
   unfolding blockOf answerVectors
-  block-refuted h = no-vectors-head (startOf m n es) (stepsOf m n es) (multipliersOf m n es) (sym (w .count) ∙ h)
+  block-refuted h = no-vectors-head (startOf m n es) (stepsOf m n es) (multipliersOf m n es) (sym are ∙ h)

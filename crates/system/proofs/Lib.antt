@@ -1,10 +1,11 @@
 -- Laws that the proofs of this crate's functions cite. The first two serve both routines, then come those of the
--- answer, and from Checks on those of the marking. Block and Claims are for the crates above.
+-- answer, and from Checks on those of the marking. Written, Block and Claims are for the crates above too.
 pub mod Rows
 pub mod Chunks
 pub mod Seed
 pub mod Laid
 pub mod Answer
+pub mod Written
 pub mod Block
 pub mod Promises
 pub mod Checks

@@ -44,7 +44,8 @@ fn vector_into(basis: &[u32], out: &mut [u32], m: u32, n: usize, i: usize, e: u3
 // The step of column i, if it has one; the number of steps written.
 fn step_into(basis: &[u32], out: &mut [u32], m: u32, n: usize, i: usize) -> usize
     requires { ⌜ Readable m n (now basis) × (length (now out) ≡ n) × (i < n) ⌝ }
-    ensures { λ r. ⌜ (r ≤ 1) × Laid n (andThen (readStep m n (rowsIn n (now (basis .entry))) i) []) (now (out .exit)) r ⌝ }
+    ensures { λ r. ⌜ (r ≤ 1) × Laid n (andThen (readStep m n (rowsIn n (now (basis .entry))) i) [])
+        (now (out .entry)) (now (out .exit)) r ⌝ }
 {
     let d = pivot_at(basis, i, n + 1);
     if d == 1 {
@@ -57,7 +58,7 @@ fn step_into(basis: &[u32], out: &mut [u32], m: u32, n: usize, i: usize) -> usiz
 // All steps, one behind the other by rising place, which is falling column; their number.
 fn steps_into(basis: &[u32], out: &mut [u32], m: u32, n: usize) -> usize
     requires { ⌜ Readable m n (now basis) × (n * n ≤ length (now out)) ⌝ }
-    ensures { λ r. ⌜ (r ≤ n) × Laid n (readSteps m n (rowsIn n (now (basis .entry))) n) (now (out .exit)) r ⌝ }
+    ensures { λ r. ⌜ (r ≤ n) × Laid n (readSteps m n (rowsIn n (now (basis .entry))) n) (now (out .entry)) (now (out .exit)) r ⌝ }
 {
     let mut count: usize = 0;
     let mut i = n;
@@ -74,7 +75,7 @@ fn steps_into(basis: &[u32], out: &mut [u32], m: u32, n: usize) -> usize
 // The starting vector, and the steps in the part behind it; the number of vectors.
 pub(crate) fn vectors_into(basis: &[u32], out: &mut [u32], m: u32, n: usize) -> usize
     requires { ⌜ Readable m n (now basis) × (n + n * n ≤ length (now out)) ⌝ }
-    ensures { λ r. ⌜ (r ≤ n + 1) × Laid n (readVectors m n (rowsIn n (now (basis .entry)))) (now (out .exit)) r ⌝ }
+    ensures { λ r. ⌜ (r ≤ n + 1) × Laid n (readVectors m n (rowsIn n (now (basis .entry)))) (now (out .entry)) (now (out .exit)) r ⌝ }
 {
     vector_into(basis, &mut out[..n], m, n, n, 1);
     let steps = steps_into(basis, &mut out[n..], m, n);

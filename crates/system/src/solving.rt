@@ -1,15 +1,15 @@
 // The answer to a list of equations in n unknowns mod m.
 ghost use mathlib.Core.Path.{_≡_};
-ghost use mathlib.Core.List.{_∷_};
 ghost use Prim.Native.Nat.{_+_, _*_, _≤_};
-ghost use lib.ListN.{length, take};
+ghost use lib.ListN.{length};
+ghost use Rattle.slices.specs.Over.{over};
 ghost use Rattle.equations.specs.Lines.{equationsOf};
-ghost use Rattle.system.specs.Block.{blockOf};
+ghost use Rattle.system.specs.Block.{behindHead, writtenOf, answerOf};
 ghost use Rattle.system.specs.Posed.{Posed};
 use crate::runs::refutation;
 use crate::runs::solution;
 
-// An answer block: its head, and the first len of the numbers behind it.
+// An answer block: its head, and behind it the first len of the numbers. The others are zeros.
 pub struct Answer {
     pub head: u32,
     pub len: usize,
@@ -18,8 +18,7 @@ pub struct Answer {
 
 pub fn solve(m: u32, n: usize, lines: &[u32]) -> Answer
     requires { ⌜ Posed m n (now lines) ⌝ }
-    ensures { λ r. ⌜ r .head ∷ take (r .len) (r .numbers) ≡ blockOf m n (equationsOf n (now (lines .entry))) ⌝ }
-    ensures { λ r. ⌜ r .len ≤ 272 ⌝ }
+    ensures { λ r. ⌜ r ≡ answerOf m n (equationsOf n (now (lines .entry))) ⌝ }
 {
     let mut numbers = [0u32; 272];
     let written = solve_into(m, n, lines, &mut numbers);
@@ -36,12 +35,12 @@ pub struct Written {
     pub len: usize,
 }
 
-// The same with the numbers at the front of lent memory, which can be small where there are few unknowns. The first run carries no
-// columns: multipliers are computed only where nothing solves the equations.
+// The same with the numbers at the front of lent memory, which can be small where there are few unknowns; what stands behind them
+// is left alone. The first run carries no columns: multipliers are computed only where nothing solves the equations.
 pub fn solve_into(m: u32, n: usize, lines: &[u32], numbers: &mut [u32]) -> Written
     requires { ⌜ Posed m n (now lines) × (n + n * n ≤ length (now numbers)) × (16 ≤ length (now numbers)) ⌝ }
-    ensures { λ r. ⌜ r .head ∷ take (r .len) (now (numbers .exit)) ≡ blockOf m n (equationsOf n (now (lines .entry))) ⌝ }
-    ensures { λ r. ⌜ r .len ≤ length (now (numbers .entry)) ⌝ }
+    ensures { λ r. ⌜ r ≡ writtenOf m n (equationsOf n (now (lines .entry))) ⌝ }
+    ensures { λ _. ⌜ now (numbers .exit) ≡ over (behindHead m n (equationsOf n (now (lines .entry)))) (now (numbers .entry)) ⌝ }
 {
     let vectors = solution(m, n, lines, numbers);
     if vectors == 0 {

@@ -8,11 +8,12 @@ use native.Mathlib.Omega.{arith}
 use borrow.Author.Needs.{needs}
 use borrow.Author.Tests.{eq-eqb, ne-eqb}
 use denote.Ref.{now}
-use lib.ListN.{take}
+use lib.ListN.{take, replicate}
 use lib.Seq.{length-take-le}
 use Rattle.questions.specs.Questions.{firstNo}
 use Rattle.equations.specs.Lines.{equationsOf}
 use Rattle.system.specs.Block.{blockOf}
+use Rattle.system.proofs.Written.{written-block, written-fits}
 use Rattle.milebadger.specs.Reply.{refuses}
 use Rattle.milebadger.specs.Calls.{solveQuestions, blockReply, solveReply}
 use Rattle.milebadger.proofs.Questions.{posed}
@@ -56,12 +57,17 @@ solve-into-requires c κs =
     (q, omega (arith, room (p .n) 4 (omega arith)), omega arith)
 
 array-share-prefix-few : tie.Need-array-share-prefix-few
-array-share-prefix-few c = search needs
+array-share-prefix-few c =
+    let p = c .before .before .before .before .before .before .before .before .args in
+    let solved = c .before .solve-into in
+    written-fits (p .m) (p .n) (equationsOf (p .n) (now (p .lines))) (solved .result) (replicate 20 0) (solved .ensures)
 
 slice-aggregate-give-block : tie.Need-slice-aggregate-give-block
 slice-aggregate-give-block c =
+    let p = c .before .before .before .before .before .before .before .before .before .args in
     let solved = c .before .before .solve-into in
-    sym (length-take-le (solved .result .len) (solved .last .1 .1 .1 .0) (omega (arith, solved .ensures .1, solved .kept .1 .1 .1 .0)))
+    sym (length-take-le (solved .result .len) (solved .last .1 .1 .1 .0)
+    (written-fits (p .m) (p .n) (equationsOf (p .n) (now (p .lines))) (solved .result) (replicate 20 0) (solved .ensures)))
 
 give-block-requires : tie.Need-give-block-requires
 give-block-requires c κs = search needs
@@ -76,8 +82,9 @@ returns-2 c =
     let none = c .before .before .before .before .before .before .before .before .before .if1 .left in
     let solved = c .before .before .before .before .before .before .solve-into in
     let block = solved .result .head ∷ take (solved .result .len) (solved .last .1 .1 .1 .0) in
+    let is = written-block (p .m) (p .n) (equationsOf (p .n) (now (p .lines))) (solved .result) (replicate 20 0) (solved .ensures) in
     let given = c .before .before .give-block in
-    rw (answered (p .m) (p .n) (now (p .lines)) (asked .result) (asked .ensures) none block (solved .ensures .0))
+    rw (answered (p .m) (p .n) (now (p .lines)) (asked .result) (asked .ensures) none block is)
     (replied-on (given .ok) (given .ensures))
 
 slice-aggregate-solve-into-2 : tie.Need-slice-aggregate-solve-into-2
@@ -90,12 +97,17 @@ solve-into-requires-2 c κs =
     (q, omega (arith, room (p .n) 16 (q .unknowns)), omega arith)
 
 array-share-prefix-numbers : tie.Need-array-share-prefix-numbers
-array-share-prefix-numbers c = search needs
+array-share-prefix-numbers c =
+    let p = c .before .before .before .before .before .before .before .before .args in
+    let solved = c .before .solve-into2 in
+    written-fits (p .m) (p .n) (equationsOf (p .n) (now (p .lines))) (solved .result) (replicate 272 0) (solved .ensures)
 
 slice-aggregate-give-block-2 : tie.Need-slice-aggregate-give-block-2
 slice-aggregate-give-block-2 c =
+    let p = c .before .before .before .before .before .before .before .before .before .args in
     let solved = c .before .before .solve-into2 in
-    sym (length-take-le (solved .result .len) (solved .last .1 .1 .1 .0) (omega (arith, solved .ensures .1, solved .kept .1 .1 .1 .0)))
+    sym (length-take-le (solved .result .len) (solved .last .1 .1 .1 .0)
+    (written-fits (p .m) (p .n) (equationsOf (p .n) (now (p .lines))) (solved .result) (replicate 272 0) (solved .ensures)))
 
 give-block-requires-2 : tie.Need-give-block-requires-2
 give-block-requires-2 c κs = search needs
@@ -110,8 +122,9 @@ returns-3 c =
     let none = c .before .before .before .before .before .before .before .before .before .if1 .left in
     let solved = c .before .before .before .before .before .before .solve-into2 in
     let block = solved .result .head ∷ take (solved .result .len) (solved .last .1 .1 .1 .0) in
+    let is = written-block (p .m) (p .n) (equationsOf (p .n) (now (p .lines))) (solved .result) (replicate 272 0) (solved .ensures) in
     let given = c .before .before .give-block2 in
-    rw (answered (p .m) (p .n) (now (p .lines)) (asked .result) (asked .ensures) none block (solved .ensures .0))
+    rw (answered (p .m) (p .n) (now (p .lines)) (asked .result) (asked .ensures) none block is)
     (replied-on (given .ok) (given .ensures))
 
 pub milebadger-solve-spec : {M : Type 1} → statement M

@@ -5,8 +5,9 @@ use mathlib.Core.List.{List, [], _∷_, flatten}
 use mathlib.Core.Option.{Option, none, some}
 use mathlib.Core.Bool.{cond}
 use Prim.Native.Nat.{ℕ, zero, suc, _+_, _-_, _*_, _/_, _<_, _≤_}
-use lib.ListN.{length, take, replicate}
+use lib.ListN.{length, replicate}
 use lib.Dec.{eqb}
+use Rattle.slices.specs.Over.{over}
 use Rattle.equations.specs.Equation.{Equation}
 use Rattle.equations.specs.Answer.{andThen, startOf, stepsOf}
 use Rattle.elimination.specs.Basis.{pivot}
@@ -50,7 +51,8 @@ vectorsWith (some start) steps = start ∷ steps
 unfoldable pub answerVectors : ℕ → ℕ → List Equation → List (List ℕ)
 answerVectors m n es = vectorsWith (startOf m n es) (stepsOf m n es)
 
--- the r vectors vs, n numbers each, lie one behind the other at the front of s
-pub record Laid (n : ℕ) (vs : List (List ℕ)) (s : List ℕ) (r : ℕ) : Type 0 where
+-- the r vectors vs, n numbers each, are written one behind the other to the front of s, which held `old`
+pub record Laid (n : ℕ) (vs : List (List ℕ)) (old s : List ℕ) (r : ℕ) : Type 0 where
   pub count : r ≡ length vs
-  pub front : take (r * n) s ≡ flatten vs
+  pub size : length (flatten vs) ≡ r * n
+  pub written : s ≡ over (flatten vs) old

@@ -8,7 +8,9 @@ use lib.ListN.{length, take, drop, replicate}
 use lib.Seq.{length-take-le, take-at}
 use borrow.Author.Needs.{needs}
 use Rattle.slices.proofs.Parts.{joined-fit, relent-length}
+use Rattle.equations.specs.Lines.{equationsOf}
 use Rattle.system.specs.Posed.{Posed}
+use Rattle.system.proofs.Written.{answer-block}
 use Rattle.words.specs.Words.{numbersOf}
 use Rattle.safe.proofs.Answer.{lines-fit, lines-posed, found-turns}
 use Rattle.safe.proofs.opening.first_turns.Statement.{statement}
@@ -76,7 +78,8 @@ returns c =
     let front = take-at (s .last .0) (drop (n * (n + 1)) cleared) (n * (n + 1)) long ∙ s .ensures in
     λ rows count. found-turns (a .m) rows (a .columns) n (r .result .len) (r .result .head) (numbersOf (a .values .now))
     (take (n * (n + 1)) (s .last .0 ++ drop (n * (n + 1)) cleared)) (r .result .numbers)
-    (omega (arith, z .pre .modulus)) (z .pre .residues) count front (r .ensures .0)
+    (omega (arith, z .pre .modulus)) (z .pre .residues) count front
+    (answer-block (a .m) n (equationsOf n (take (n * (n + 1)) (s .last .0 ++ drop (n * (n + 1)) cleared))) (r .result) (r .ensures))
 
 pub first-turns-spec : {M : Type 1} → statement M
 first-turns-spec =

@@ -1,10 +1,10 @@
 -- `answering::block_of` meets its contract: the equations of an opened sheet may be asked about, and their block can be written.
-use mathlib.Core.Path.{_≡_, sym}
-use Prim.Native.Nat.{_≤_}
+use mathlib.Core.Path.{sym}
 use native.Mathlib.Omega.{arith}
-use borrow.Author.Needs.{needs}
-use lib.ListN.{length}
+use Rattle.equations.specs.Lines.{equationsOf}
 use Rattle.equations.proofs.Truth.{of-true}
+use Rattle.system.proofs.Written.{answer-block, answer-fits}
+use Rattle.sheet.specs.Record.{linesIn}
 use Rattle.sheet.proofs.Reading.{readable-fit, filled-fits, length-lines, opened-readable, opened-posed}
 use Rattle.sheet.proofs.Solved.{solved-words, solved-head, solved-start, solved-below}
 use Rattle.sheet.proofs.answering.block_of.Statement.{statement}
@@ -44,9 +44,9 @@ returns c =
     let s = c .before .before .before .before .args .sheet in
     let reads = opened-readable s (of-true (c .before .before .before .before .pre)) in
     let b = c .solve .result in
-    let is = c .solve .ensures .0 in
-    let size : length (b .numbers) ≡ 272 = search needs in
-    let whole : b .len ≤ length (b .numbers) = omega (arith, c .solve .ensures .1) in (
+    let es = equationsOf (s .unknowns) (linesIn s) in
+    let is = answer-block (s .modulus) (s .unknowns) es b (c .solve .ensures) in
+    let whole = answer-fits (s .modulus) (s .unknowns) es b (c .solve .ensures) in (
       solved-words s reads (b .head) (b .len) (b .numbers) whole is,
       (
         (

@@ -19,10 +19,11 @@ positive : (m n i d : ℕ) (s : List ℕ) → Readable m n s → i < n → d ≡
 positive m n i d s r h e =
     omega (arith, pivot-kept m (n + 1) i (n + 1) s (omega arith) (omega arith) (r .size) (r .kept))
 
-one-step : (m n i d : ℕ) (B : List (List ℕ)) (out : List ℕ) → d ≡ pivot i B → (d ≡ 1 → ⊥) → length out ≡ n
-    → out ≡ readVector m n B i (m / d) → Laid n (andThen (readStep m n B i) []) out 1
-one-step m n i d B out e h l v =
-    laid-one m n i B out (λ p. h (e ∙ p)) l (v ∙ ap (λ (k : ℕ). readVector m n B i (m / k)) e)
+one-step : (m n i d : ℕ) (B : List (List ℕ)) (old : List ℕ) {out : List ℕ} → d ≡ pivot i B → (d ≡ 1 → ⊥)
+    → length old ≡ n → length out ≡ length old → out ≡ readVector m n B i (m / d)
+    → Laid n (andThen (readStep m n B i) []) old out 1
+one-step m n i d B old e h room same v =
+    laid-one m n i B old (λ p. h (e ∙ p)) room (same ∙ room) (v ∙ ap (λ (k : ℕ). readVector m n B i (m / k)) e)
 
 add-pivot-at : tie.Need-add-pivot-at
 add-pivot-at c = search needs
@@ -75,9 +76,9 @@ returns-2 c =
     let v = c .before .before .vector-into in
     let d = c .before .before .before .before .before .pivot-at in (
       omega arith,
-      one-step (a .m) (a .n) (a .i) (d .result) (rowsIn (a .n) (a .basis .now)) (v .last .1 .0)
+      one-step (a .m) (a .n) (a .i) (d .result) (rowsIn (a .n) (a .basis .now)) (a .out .now)
           (d .ensures (a .n + 1) (omega arith)) (c .before .before .before .before .if1 .left)
-          (v .kept .1 .0 ∙ z .pre .1) (v .ensures),
+          (z .pre .1) (v .kept .1 .0) (v .ensures),
     )
 
 pub step-into-spec : {M : Type 1} → statement M

@@ -1,9 +1,8 @@
 -- `reading::steps_into` meets its contract. The invariant: what is written and the steps of the first i columns are all
--- steps. The measure is i.
+-- steps, and behind what is written the slice is as it was. The measure is i.
 use mathlib.Core.Path.{_≡_, _∙_}
-use Prim.Native.Nat.{_+_, _-_, _*_}
 use native.Mathlib.Omega.{arith}
-use lib.ListN.{length, drop}
+use lib.ListN.{length}
 use borrow.Author.Needs.{needs}
 use Rattle.system.specs.Model.Reading.{rowsIn}
 use Rattle.system.proofs.Laid.{Left, left-all, left-less, left-none, room, few, room-length}
@@ -12,7 +11,7 @@ use Rattle.system.proofs.reading.steps_into.Tie as tie
 
 abbrev Inv-loop : tie.InvT-loop
 Inv-loop basis out₀ m n count₀ i₀ out count i =
-    (length out ≡ length out₀) × Left m n (rowsIn n basis) out count i
+    (length out ≡ length out₀) × Left m n (rowsIn n basis) out₀ out count i
 
 abbrev μ-loop : tie.MeasureT-loop
 μ-loop basis out₀ m n count₀ i₀ out count i = i
@@ -82,12 +81,8 @@ loop-again c =
     let a = z .args in
     let s = c .before .before .step-into in (
       c .before .out .given .1 ∙ l .inv .0,
-      left-less (a .n) (l .count) (s .result) (l .out) (s .last .1 .0)
-          (drop (l .count * a .n + a .n - l .count * a .n) (drop (l .count * a .n) (l .out)))
-          (omega (arith, room (a .n) (l .count) (l .i) (l .inv .1 .places) (omega arith)))
-          (s .kept .1 .0
-          ∙ room-length (a .n) (l .count) (l .i) (l .out) (l .inv .1 .places) (omega arith) (omega (arith, l .inv .0)))
-          (s .ensures .0) (a .m) (l .i) (rowsIn (a .n) (a .basis .now)) (omega arith) (s .ensures .1) (l .inv .1),
+      left-less (a .m) (a .n) (l .i) (l .count) (s .result) (rowsIn (a .n) (a .basis .now)) (omega arith) (s .ensures .0)
+          (l .inv .1) (s .ensures .1),
     )
 
 same-length : tie.Need-same-length Inv-loop μ-loop
@@ -98,7 +93,7 @@ returns c =
     let l = c .before .loop in
     let a = c .before .before .before .before .args in (
       omega (arith, l .inv .1 .places),
-      left-none (a .m) (a .n) (l .i) (l .count) (rowsIn (a .n) (a .basis .now)) (l .out) (omega arith) (l .inv .1),
+      left-none (a .m) (a .n) (l .i) (l .count) (rowsIn (a .n) (a .basis .now)) (omega arith) (l .inv .1),
     )
 
 pub steps-into-spec : {M : Type 1} → statement M

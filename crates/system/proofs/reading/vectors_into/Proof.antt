@@ -5,7 +5,7 @@ use Prim.Native.Nat.{ℕ, _+_}
 use native.Mathlib.Omega.{arith}
 use lib.ListN.{length, drop}
 use lib.Seq.{length-take-le}
-use Rattle.slices.proofs.Parts.{putBack, put-behind}
+use Rattle.slices.proofs.Parts.{lent, putBack}
 use Rattle.system.specs.Model.Reading.{rowsIn, Laid, readVector, readSteps, readVectors}
 use Rattle.system.proofs.Laid.{laid-cons}
 use borrow.Author.Needs.{needs}
@@ -13,11 +13,11 @@ use Rattle.system.proofs.reading.vectors_into.Statement.{statement}
 use Rattle.system.proofs.reading.vectors_into.Tie as tie
 
 -- the steps p put behind the starting vector v
-start-then-steps : (m n r : ℕ) (B : List (List ℕ)) (v d p : List ℕ) → length v ≡ n → v ≡ readVector m n B n 1
-    → Laid n (readSteps m n B n) p r
-    → Laid n (readVectors m n B) (putBack n (v ++ d) p) (r + 1)
+start-then-steps : (m n r : ℕ) (B : List (List ℕ)) (v old : List ℕ) {p : List ℕ} → length v ≡ n → v ≡ readVector m n B n 1
+    → Laid n (readSteps m n B n) (lent n (v ++ drop n old)) p r
+    → Laid n (readVectors m n B) old (putBack n (v ++ drop n old) p) (r + 1)
 unfolding readVectors
-start-then-steps m n r B v d p h e w = rw (put-behind n v d p h, ← e) (laid-cons n r v p (readSteps m n B n) h w)
+start-then-steps m n r B v old h e w = rw (← e) (laid-cons n r v old (readSteps m n B n) h w)
 
 slice-relend-prefix-vector-into : tie.Need-slice-relend-prefix-vector-into
 slice-relend-prefix-vector-into c = search needs
@@ -62,8 +62,8 @@ returns c =
     let s = c .before .before .steps-into in
     let e = v .kept .1 .0 ∙ length-take-le (a .n) (a .out .now) (omega arith) in (
       omega (arith, s .ensures .0),
-      start-then-steps (a .m) (a .n) (s .result) (rowsIn (a .n) (a .basis .now)) (v .last .1 .0) (drop (a .n) (a .out .now))
-          (s .last .1 .0) e (v .ensures) (s .ensures .1),
+      start-then-steps (a .m) (a .n) (s .result) (rowsIn (a .n) (a .basis .now)) (v .last .1 .0) (a .out .now) e (v .ensures)
+          (s .ensures .1),
     )
 
 pub vectors-into-spec : {M : Type 1} → statement M

@@ -3,11 +3,10 @@ use mathlib.Core.Path.{_≡_, sym, ap, _∙_}
 use mathlib.Core.List.{List, []}
 use Prim.Native.Nat.{ℕ, _+_, _-_, _/_, _≤_}
 use native.Mathlib.Omega.{arith}
-use lib.ListN.{length, take, drop, getD}
+use lib.ListN.{length, drop, getD}
 use borrow.Author.Needs.{needs}
 use Rattle.slices.specs.Over.{over}
 use Rattle.slices.proofs.Parts.{lent, lent-is, lent-length}
-use Rattle.slices.proofs.Over.{over-front}
 use Rattle.elimination.specs.Multipliers.{multipliersOf}
 use Rattle.elimination.specs.Multipliers.Row.{multipliers-row}
 use Rattle.elimination.specs.Tableau.{tableau}
@@ -37,9 +36,13 @@ module _ (m n k : ℕ) (lines b : List ℕ) (number : k ≡ length lines / (n + 
       ∙ ap (λ (j : ℕ). drop 1 (getD (tableau m n j (equationsOf n lines)) n [])) (number ∙ sym (length-equations n lines))
       ∙ sym (multipliers-row m n (equationsOf n lines))
 
-  copied : (old out : List ℕ) → rows (n + 1) (n + 1 + k) b ≡ tableau m n k (equationsOf n lines)
-      → out ≡ over (lent (length b - k) b) old → take k out ≡ multipliersOf m n (equationsOf n lines)
-  copied old out built e = over-front k (lent (length b - k) b) old e long ∙ carried built
+  copied : (old : List ℕ) {out : List ℕ} → rows (n + 1) (n + 1 + k) b ≡ tableau m n k (equationsOf n lines)
+      → out ≡ over (lent (length b - k) b) old
+      → (k ≡ length (multipliersOf m n (equationsOf n lines))) × (out ≡ over (multipliersOf m n (equationsOf n lines)) old)
+  copied old built e = (
+    sym long ∙ ap length (carried built),
+    e ∙ ap (λ (z : List ℕ). over z old) (carried built),
+  )
 
 build-requires : tie.Need-build-requires
 build-requires c κs =
@@ -100,7 +103,7 @@ returns c =
     let a = z .args in
     let b = c .before .before .before .before .before .before .before .before .build in
     copied (a .m) (a .n) (a .k) (a .lines .now) (b .last .0) (z .pre .0 .1) (b .kept .0 ∙ length-zeros _ (z .pre .1 .0))
-    (a .out .now) (c .before .before .copy .last .1 .0) (b .ensures .0) (c .before .before .copy .ensures)
+    (a .out .now) (b .ensures .0) (c .before .before .copy .ensures)
 
 pub multipliers-into-spec : {M : Type 1} → statement M
 multipliers-into-spec =

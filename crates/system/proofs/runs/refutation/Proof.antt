@@ -75,9 +75,7 @@ same-length : tie.Need-same-length
 same-length c = search needs
 
 returns : tie.Need-returns
-returns c =
-    let z = c .before .before .before .before .before .before .before .before .before .before in
-    (equations-few (z .args .n) (z .args .lines .now) (z .pre .0 .equations), c .before .before .before .multipliers-into .ensures)
+returns c = c .before .before .before .multipliers-into .ensures
 
 array-borrow-prefix-basis : tie.Need-array-borrow-prefix-basis
 array-borrow-prefix-basis c =
@@ -106,9 +104,7 @@ same-length-2 : tie.Need-same-length-2
 same-length-2 c = search needs
 
 returns-2 : tie.Need-returns-2
-returns-2 c =
-    let z = c .before .before .before .before .before .before .before .before .before .before in
-    (equations-few (z .args .n) (z .args .lines .now) (z .pre .0 .equations), c .before .before .before .multipliers-into2 .ensures)
+returns-2 c = c .before .before .before .multipliers-into2 .ensures
 
 pub refutation-spec : {M : Type 1} → statement M
 refutation-spec =

@@ -1,9 +1,8 @@
 -- `runs::solution_into` meets its contract: the constant's pivot tells whether there is a solution, and then the vectors
 -- that are read off the tableau are those of the answer.
-use mathlib.Core.Path.{_≡_, refl, sym, ap, _∙_, subst}
-use mathlib.Core.List.{List, flatten}
+use mathlib.Core.Path.{_≡_, sym, ap, _∙_, subst}
+use mathlib.Core.List.{List}
 use Prim.Native.Nat.{ℕ, _+_}
-use native.Mathlib.Nat.{zero-mul}
 use native.Mathlib.Omega.{arith}
 use lib.ListN.{length}
 use borrow.Author.Needs.{needs}
@@ -15,6 +14,7 @@ use Rattle.tableau.proofs.Packed.{length-zeros}
 use Rattle.system.specs.Posed.{Posed}
 use Rattle.system.specs.Model.Reading.{Readable, Laid, readVectors, answerVectors}
 use Rattle.system.proofs.Rows.{triangle-within}
+use Rattle.system.proofs.Laid.{laid-nothing}
 use Rattle.equations.proofs.Lines.{equations-shaped}
 use Rattle.system.proofs.Answer.{vectors-solved, vectors-none}
 use Rattle.system.proofs.runs.solution_into.Statement.{statement}
@@ -27,22 +27,21 @@ module _ (m n : ℕ) (lines b : List ℕ) (posed : Posed m n lines) where
       let e : n + 1 + 0 ≡ n + 1 = omega arith in
       record { modulus = posed .modulus; unknowns = posed .unknowns; size = h; kept = rw e at k }
 
-  module _ (d : ℕ) (out : List ℕ) (built : rows (n + 1) (n + 1 + 0) b ≡ tableau m n 0 (equationsOf n lines))
+  module _ (d : ℕ) (old : List ℕ) (built : rows (n + 1) (n + 1 + 0) b ≡ tableau m n 0 (equationsOf n lines))
       (read : d ≡ pivot n (rows (n + 1) (n + 1) b)) where
     same : rows (n + 1) (n + 1) b ≡ tableau m n 0 (equationsOf n lines)
     same = let e : n + 1 + 0 ≡ n + 1 = omega arith in rw e at built
 
-    unsolved : (d ≡ m → ⊥) → Laid n (answerVectors m n (equationsOf n lines)) out 0
-    unfolding flatten
+    unsolved : (d ≡ m → ⊥) → Laid n (answerVectors m n (equationsOf n lines)) old old 0
     unsolved h =
         rw (vectors-none m n 0 (equationsOf n lines) (omega (arith, posed .modulus)) (equations-shaped n lines)
         (λ p. h (read ∙ ap (pivot n) same ∙ p)))
-        (record { count = refl; front = rw (zero-mul n) })
+        (laid-nothing n old)
 
-    solved : (r : ℕ) → d ≡ m → Laid n (readVectors m n (rows (n + 1) (n + 1) b)) out r
-        → Laid n (answerVectors m n (equationsOf n lines)) out r
-    solved r h w =
-        subst (λ (vs : List (List ℕ)). Laid n vs out r)
+    solved : (r : ℕ) {out : List ℕ} → d ≡ m → Laid n (readVectors m n (rows (n + 1) (n + 1) b)) old out r
+        → Laid n (answerVectors m n (equationsOf n lines)) old out r
+    solved r {out} h w =
+        subst (λ (vs : List (List ℕ)). Laid n vs old out r)
         (ap (readVectors m n) same
         ∙ vectors-solved m n 0 (equationsOf n lines) (omega (arith, posed .modulus)) (equations-shaped n lines)
         (sym (read ∙ ap (pivot n) same) ∙ h)) w
@@ -107,7 +106,7 @@ returns-2 c =
     let d = c .before .before .before .before .before .before .pivot-at in
     let v = c .before .before .vectors-into in (
       v .ensures .0,
-      solved (a .m) (a .n) (a .lines .now) (b .last .0) (z .pre .0) (d .result) (v .last .1 .0) (b .ensures .0)
+      solved (a .m) (a .n) (a .lines .now) (b .last .0) (z .pre .0) (d .result) (a .out .now) (b .ensures .0)
           (d .ensures (a .n + 1) (omega arith)) (v .result)
           (c .before .before .before .before .before .if1 .left) (v .ensures .1),
     )

@@ -1,18 +1,13 @@
--- `solving::solve_into` meets its contract: either the vectors that were written are the block, or there are none and the
--- multipliers are.
-use mathlib.Core.Path.{ap, _∙_}
-use mathlib.Core.List.{List, _∷_}
+-- `solving::solve_into` meets its contract: either the vectors that were written are the block, or there are none, so that
+-- nothing was written before the multipliers, and these are.
 use Prim.Native.Nat.{ℕ, _+_, _*_, _≤_}
 use native.Mathlib.Nat.{mul-le-mul}
 use native.Mathlib.Omega.{arith}
 use Rattle.equations.specs.Lines.{equationsOf}
-use Rattle.system.proofs.Answer.{block-solved, block-refuted}
+use Rattle.system.proofs.Written.{written-solved, written-refuted}
 use borrow.Author.Needs.{needs}
 use Rattle.system.proofs.solving.solve_into.Statement.{statement}
 use Rattle.system.proofs.solving.solve_into.Tie as tie
-
-numbers-fit : (n r : ℕ) → r ≤ n + 1 → r * n ≤ n + n * n
-numbers-fit n r h = omega (arith, mul-le-mul {n₁ = r} {m₁ = n} {n₂ = n + 1} {m₂ = n} h (omega arith))
 
 -- n is one of the sizes that are answered
 numbers-few : (n r : ℕ) → n ≤ 16 → r ≤ n + 1 → r * n ≤ 272
@@ -33,11 +28,9 @@ returns c =
     let a = z .args in
     let s = c .before .before .before .before .before .before .before .solution in
     let es = equationsOf (a .n) (a .lines .now) in
-    let r = c .before .before .refutation in (
-      ap {B = List ℕ} (λ ks. 0 ∷ ks) (r .ensures .1)
-          ∙ block-refuted (a .m) (a .n) (s .result) es (s .last .1 .1 .1 .0) (s .ensures .1) (c .before .before .before .before .if1 .taken),
-      omega (arith, r .ensures .0, z .pre .2),
-    )
+    let r = c .before .before .refutation in
+    written-refuted (a .m) (a .n) es (s .result) (r .result) (a .numbers .now) (c .before .before .before .before .if1 .taken)
+    (s .ensures .1) (r .ensures .0) (r .ensures .1)
 
 cast-head : tie.Need-cast-head
 cast-head c = search needs
@@ -56,10 +49,8 @@ returns-2 c =
     let z = c .before .before .before .before .before .before .before in
     let a = z .args in
     let es = equationsOf (a .n) (a .lines .now) in
-    let s = c .before .before .before .solution in (
-      block-solved (a .m) (a .n) (s .result) es (s .last .1 .1 .1 .0) (s .ensures .1) (omega arith),
-      omega (arith, numbers-fit (a .n) (s .result) (s .ensures .0), z .pre .1),
-    )
+    let s = c .before .before .before .solution in
+    written-solved (a .m) (a .n) es (s .result) (a .numbers .now) (omega arith) (s .ensures .1)
 
 pub solve-into-spec : {M : Type 1} → statement M
 solve-into-spec =
