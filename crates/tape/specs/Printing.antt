@@ -1,5 +1,6 @@
 -- What a loop writes that prints a tape a call at a time: a piece for each call of `next`, which is given the sheet that the call
--- before it left and the rest of the tape behind it, and a last piece for the bytes left over.
+-- before it left and the rest of the tape behind it, and a last piece for the bytes left over. A write that fails ends the loop: what
+-- is written then is a front part of this.
 use mathlib.Core.Path.{_≡_}
 use mathlib.Core.List.{List, [], _∷_, flatten}
 use Prim.Native.Nat.{ℕ, _≤_, _<_}

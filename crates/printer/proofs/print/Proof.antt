@@ -45,23 +45,27 @@ slice-aggregate-write-all c =
 write-all-requires : tie.Need-write-all-requires Inv-loop μ-loop
 write-all-requires c κs = search needs
 
+-- a write failed
+returns : tie.Need-returns Inv-loop μ-loop
+returns c = search needs
+
 sub-rest : tie.Need-sub-rest Inv-loop μ-loop
 sub-rest c =
-    let l = c .before .before .before .before .before .before .before .loop in
-    step-bytes (l .sheet) (l .rest .now) (omega arith) (c .before .before .before .before .next .ensures .0) .1
+    let l = c .before .before .before .before .before .before .before .before .loop in
+    step-bytes (l .sheet) (l .rest .now) (omega arith) (c .before .before .before .before .before .next .ensures .0) .1
 
 part-rest-start : tie.Need-part-rest-start Inv-loop μ-loop
 part-rest-start c =
-    let l = c .before .before .before .before .before .before .before .loop in
-    step-bytes (l .sheet) (l .rest .now) (omega arith) (c .before .before .before .before .next .ensures .0) .1
+    let l = c .before .before .before .before .before .before .before .before .loop in
+    step-bytes (l .sheet) (l .rest .now) (omega arith) (c .before .before .before .before .before .next .ensures .0) .1
 
 part-rest-end : tie.Need-part-rest-end Inv-loop μ-loop
 part-rest-end c = search needs
 
 loop-less : tie.Need-loop-less Inv-loop μ-loop
 loop-less c =
-    let l = c .before .before .before .before .before .before .before .before .loop in
-    let step = c .before .before .before .before .before .next in
+    let l = c .before .before .before .before .before .before .before .before .before .loop in
+    let step = c .before .before .before .before .before .before .next in
     let rest = l .rest .now in
     omega (arith, step-bytes (l .sheet) rest (omega arith) (step .ensures .0) .0, lent-length (step .result .used) rest)
 
@@ -90,8 +94,8 @@ slice-aggregate-write-all-2 c =
 write-all-requires-2 : tie.Need-write-all-requires-2 Inv-loop μ-loop
 write-all-requires-2 c κs = search needs
 
-returns : tie.Need-returns Inv-loop μ-loop
-returns c = search needs
+returns-2 : tie.Need-returns-2 Inv-loop μ-loop
+returns-2 c = search needs
 
 pub print-spec : {M : Type 1} → statement M
 print-spec =
@@ -106,6 +110,7 @@ print-spec =
     array-share-prefix-out
     slice-aggregate-write-all
     write-all-requires
+    returns
     sub-rest
     part-rest-start
     part-rest-end
@@ -116,4 +121,4 @@ print-spec =
     array-share-prefix-out-2
     slice-aggregate-write-all-2
     write-all-requires-2
-    returns)
+    returns-2)
