@@ -10,7 +10,7 @@ use Prim.Native.Nat.{ℕ, suc, _+_, _%_, _≤_, _<_}
 use native.Mathlib.Nat.{zero-lt-suc}
 use native.Mathlib.Omega.{arith}
 use Rattle.residue.specs.Divides.{Divides}
-use Rattle.residue.specs.Euclid.{remainder-le}
+use Rattle.residue.specs.Counted.Euclid.{remainder-le}
 use Rattle.residue.specs.Gcd.{gcd, gcd-zero, gcd-step, divisions, divisions-zero, divisions-step}
 use Rattle.residue.proofs.Bezout.{cofactors-bezout}
 use Rattle.residue.proofs.Divides.{divides-refl, divides-le, divides-antisym, divides-remainder, factor-positive}

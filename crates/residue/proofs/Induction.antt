@@ -3,7 +3,7 @@
 use Prim.Native.Nat.{ℕ, zero, suc, _%_, _≤_}
 use native.Mathlib.Nat.{le-refl}
 use native.Mathlib.Omega.{arith}
-use Rattle.residue.specs.Euclid.{remainder-le}
+use Rattle.residue.specs.Counted.Euclid.{remainder-le}
 
 pub euclid-induction : (P : ℕ → ℕ → Type 0) → ((a : ℕ) → P a 0) → ((a b : ℕ) → P (suc b) (a % suc b) → P a (suc b))
     → (a b : ℕ) → P a b

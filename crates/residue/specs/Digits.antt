@@ -1,28 +1,13 @@
--- The number of decimal digits, for Lamé's bound: "0 counts as no digits". The counter of `digitsWithin` only shows
--- that the recursion ends: the two laws say all of `digits`, and no counter stands in them.
-use mathlib.Core.Path.{_≡_, refl, ap}
-use Prim.Native.Nat.{ℕ, zero, suc, _+_, _/_, _≤_, _<_}
-use native.Mathlib.Nat.{le-refl}
-use native.Mathlib.Omega.{arith}
-
-abbrev pub digitsWithin : ℕ → ℕ → ℕ
-digitsWithin zero n = 0
-digitsWithin (suc f) zero = 0
-digitsWithin (suc f) (suc n) = digitsWithin f (suc n / 10) + 1
+-- The number of decimal digits, for Lamé's bound. The two laws say all of `digits`; the counter by which it is seen to end stands
+-- in Counted/Digits.
+use mathlib.Core.Path.{_≡_, refl}
+use Prim.Native.Nat.{ℕ, _+_, _/_, _<_}
+use Rattle.residue.specs.Counted.Digits.{digitsWithin, within-step}
 
 unfoldable pub digits : ℕ → ℕ
 digits n = digitsWithin n n
 
--- n units are enough, and more change nothing
-enough : (f f′ n : ℕ) → n ≤ f → n ≤ f′ → digitsWithin f n ≡ digitsWithin f′ n
-enough zero zero n h g = refl
-enough zero (suc f′) zero h g = refl
-enough zero (suc f′) (suc n) h g = absurd (omega arith)
-enough (suc f) zero zero h g = refl
-enough (suc f) zero (suc n) h g = absurd (omega arith)
-enough (suc f) (suc f′) zero h g = refl
-enough (suc f) (suc f′) (suc n) h g = ap (λ (d : ℕ). d + 1) (enough f f′ (suc n / 10) (omega arith) (omega arith))
-
+-- "0 counts as no digits"
 pub digits-zero : digits 0 ≡ 0
 unfolding digits
 digits-zero = refl
@@ -30,5 +15,4 @@ digits-zero = refl
 -- one digit more than without the last one
 pub digits-step : (n : ℕ) → 0 < n → digits n ≡ digits (n / 10) + 1
 unfolding digits
-digits-step zero h = absurd (omega arith)
-digits-step (suc n) h = ap (λ (d : ℕ). d + 1) (enough n (suc n / 10) (suc n / 10) (omega arith) (le-refl _))
+digits-step = within-step

@@ -12,3 +12,5 @@ pub mod Cofactors
 pub mod Inverse
 pub mod Congruence
 pub mod Promises
+-- Counted need not be read.
+pub mod Counted
