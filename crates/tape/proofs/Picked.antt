@@ -20,7 +20,7 @@ use Rattle.sheet.specs.Record.{ledgerOf}
 use Rattle.tape.specs.declared.telling.Told.{Told}
 use Rattle.tape.specs.declared.calling.Step.{Step}
 use Rattle.tape.specs.Bytes.{wordAt, wordsWithin, wordsIn}
-use Rattle.tape.specs.Calls.{wanted, callFrom, firstCall}
+use Rattle.tape.specs.FirstCall.{wanted, callFrom, firstCall}
 use Rattle.tape.specs.Reader.{linesOn, toldOf, firstOn, takenFrom, stepOf}
 use Rattle.tape.proofs.Bytes.{words-length, words-first, words-taken}
 

@@ -18,7 +18,9 @@ use Rattle.sheet.specs.Record.{fresh, ledgerOf}
 use Rattle.sheet.specs.History.{left, sheetFrom}
 use Rattle.sheet.proofs.History.{left-reads, after-reads}
 use Rattle.tape.specs.Bytes.{wordsIn}
-use Rattle.tape.specs.Calls.{wanted, wanted-some, behindFirst, callsOn, calls-none, calls-first}
+use Rattle.tape.specs.FirstCall.{wanted, behindFirst}
+use Rattle.tape.specs.Counted.Calls.{wanted-some}
+use Rattle.tape.specs.Calls.{callsOn, calls-none, calls-first}
 use Rattle.tape.specs.Lines.{callLines, linesFrom, leftOverLine, mostBytes, lines}
 use Rattle.tape.specs.Reader.{linesOn, firstOn, takenFrom}
 use Rattle.tape.proofs.Bytes.{words-length, words-behind}

@@ -9,7 +9,7 @@ use borrow.Author.Tests.{eq-eqb, ne-eqb, le-leb, lt-leb}
 use Rattle.words.specs.Words.{kindOf, numberOf}
 use Rattle.ledger.specs.Ledger.{Ledger, isOpened, unknownsOf}
 use Rattle.ledger.proofs.Unopened.{unknowns-none}
-use Rattle.tape.specs.Calls.{wanted}
+use Rattle.tape.specs.FirstCall.{wanted}
 
 abbrev byUnknowns : Bool → Bool → Bool → Bool → ℕ → ℕ → ℕ
 byUnknowns one three five few n x = cond one 2 (cond three (n + 1) (cond (five && few) (1 + n * x) 1))

@@ -19,7 +19,7 @@ use Rattle.sheet.specs.History.{left}
 use Rattle.tape.specs.declared.telling.Told.{Told}
 use Rattle.tape.specs.declared.calling.Step.{Step}
 use Rattle.tape.specs.Bytes.{wordsIn}
-use Rattle.tape.specs.Calls.{wanted, firstCall}
+use Rattle.tape.specs.FirstCall.{wanted, firstCall}
 use Rattle.tape.specs.Text.{line, lineOf}
 use Rattle.tape.specs.Lines.{refusedLine, callLines}
 

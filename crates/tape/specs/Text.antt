@@ -4,7 +4,8 @@ use mathlib.Core.List.{List, [], _∷_, _++_}
 use Prim.Native.Nat.{ℕ, zero, suc, _+_, _/_, _%_, _≤_, _<_, max}
 use native.Mathlib.Omega.{arith}
 use Prim.Native.String.{String}
-use Rattle.residue.specs.Digits.{digits, digits-zero, digits-step}
+use Rattle.residue.specs.Digits.{digits}
+use Rattle.tape.specs.Counted.Digits.{one-digit, digit-more}
 use Rattle.tape.specs.Ascii.{bytesOf}
 
 -- the k last decimal digits of a number; 48 is the code of "0"
@@ -17,12 +18,6 @@ lastDigits (suc k) x = lastDigits k (x / 10) ++ ((48 + x % 10) ∷ [])
 unfoldable pub decimal : ℕ → List ℕ
 decimal x = lastDigits (max 1 (digits x)) x
 
-one-digit : (x : ℕ) → x < 10 → max 1 (digits x) ≡ 1
-one-digit zero h = rw digits-zero
-one-digit (suc x) h =
-    let none : suc x / 10 ≡ 0 = omega arith in
-    rw (digits-step (suc x) (omega arith), none, digits-zero)
-
 -- a number below 10 is one digit
 pub decimal-small : (x : ℕ) → x < 10 → decimal x ≡ (48 + x) ∷ []
 unfolding decimal
@@ -31,11 +26,7 @@ decimal-small x h = rw (one-digit x h) (ap (λ (d : ℕ). (48 + d) ∷ []) (omeg
 -- any other is what it is without its last digit, and that digit
 pub decimal-step : (x : ℕ) → 10 ≤ x → decimal x ≡ decimal (x / 10) ++ ((48 + x % 10) ∷ [])
 unfolding decimal
-decimal-step x h =
-    let more = digits-step x (omega arith) in
-    let some = digits-step (x / 10) (omega arith) in
-    let both : max 1 (digits x) ≡ suc (max 1 (digits (x / 10))) = omega arith in
-    ap (λ (k : ℕ). lastDigits k x) both
+decimal-step x h = ap (λ (k : ℕ). lastDigits k x) (digit-more x h)
 
 -- the numbers, each behind a space; 32 is its code
 abbrev pub spaced : List ℕ → List ℕ

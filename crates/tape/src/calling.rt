@@ -3,7 +3,7 @@ ghost use mathlib.Core.Path.{_≡_};
 ghost use Prim.Native.Nat.{_≤_};
 ghost use lib.ListN.{length};
 ghost use Rattle.slices.specs.Over.{over};
-ghost use Rattle.tape.specs.Calls.{callFrom};
+ghost use Rattle.tape.specs.FirstCall.{callFrom};
 ghost use Rattle.tape.specs.Reader.{callRoom, linesOn, toldOf, firstOn, stepOf};
 use crate::reading::call_length;
 use crate::reading::smaller;

@@ -6,7 +6,7 @@ ghost use Rattle.slices.specs.Over.{over};
 ghost use Rattle.ledger.specs.Ledger.{Ledger, unknownsOf, mostUnknowns};
 ghost use Rattle.ledger.specs.Block.{longestBlock};
 ghost use Rattle.tape.specs.Bytes.{wordAt, wordsWithin};
-ghost use Rattle.tape.specs.Calls.{wanted};
+ghost use Rattle.tape.specs.FirstCall.{wanted};
 use words::reading::kind;
 use words::reading::number;
 
