@@ -1,5 +1,6 @@
 -- What `solving::solve_into` and `solving::solve` give back, and the block.
---   written-solved, written-refuted  what `solve_into` returns and leaves, for vectors and for multipliers
+--   Gives                            what `solve_into` returns, and what it leaves of lent memory
+--   written-solved, written-refuted  this for vectors, and for multipliers
 --   answer-is                        what `solve` makes of it
 --   written-block, answer-block      the block, as it lies in what they give back
 --   written-fits, answer-fits        its numbers lie in the memory
@@ -24,7 +25,7 @@ use Rattle.system.proofs.Answer.{block-solved, block-refuted}
 module _ (m n : ℕ) (es : List Equation) where
   -- ---- from the block
 
-  -- w is returned, and lent memory went from `old` to `new`
+  -- w is returned, and the memory went from `old` to `new`
   abbrev pub Gives : Written → List ℕ → List ℕ → Type 0
   Gives w old new = (w ≡ writtenOf m n es) × (new ≡ over (behindHead m n es) old)
 
