@@ -62,11 +62,11 @@ static void show_answer(uint32_t m, const uint32_t lines[6])
 /* The turns that open a safe of two rows, by milebadger_safe: a row of turns for each row of locks. */
 static void show_turns(uint32_t m, uint32_t columns, const uint32_t *values)
 {
-    uint32_t words[16];
-    uint32_t turns[16];
+    uint32_t words[MILEBADGER_MOST_LOCKS];
+    uint32_t turns[MILEBADGER_MOST_LOCKS];
     for (uint32_t i = 0; i < 2 * columns; i++)
         words[i] = MILEBADGER_ENTRY(values[i]);
-    int64_t result = milebadger_safe(m, 2, columns, words, 2 * columns, turns, 16);
+    int64_t result = milebadger_safe(m, 2, columns, words, 2 * columns, turns, MILEBADGER_MOST_LOCKS);
 
     printf("a safe mod %" PRIu32 ":\n", m);
     for (uint32_t row = 0; row < 2; row++)

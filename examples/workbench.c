@@ -7,7 +7,7 @@
 /* The lines of a tape with these words, by milebadger_tape. */
 static void show_lines(const char *title, const uint32_t *words, size_t count)
 {
-    uint8_t tape[256], lines[1024];
+    uint8_t tape[256], lines[MILEBADGER_LINES_ROOM(sizeof tape)];
     if (count > sizeof tape / 4)
         return;
     for (size_t i = 0; i < 4 * count; i++)

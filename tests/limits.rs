@@ -1,0 +1,125 @@
+//! The limits that include/milebadger.h names: each is reached, and what is above it is refused.
+mod face;
+mod ledger;
+mod reference;
+mod tape;
+
+use ledger::{equation, opening, word, ANSWER, ENTRY, HEAD};
+
+/// The number that the header has for a limit.
+fn limit(name: &str) -> usize {
+    let define = format!("#define MILEBADGER_{name} ");
+    let rest = include_str!("../include/milebadger.h").lines().find_map(|line| line.strip_prefix(&define)).expect(name);
+    let number = rest.split(' ').next().unwrap();
+    match number.strip_prefix("0x") {
+        Some(digits) => usize::from_str_radix(digits, 16).unwrap(),
+        None => number.parse().unwrap(),
+    }
+}
+
+/// The header's MILEBADGER_LINES_ROOM.
+fn room(tape_len: usize) -> usize {
+    tape_len / 4 * limit("LONGEST_ANSWER") + 10
+}
+
+/// The lines of a tape with these words, from a buffer with the room that the header names.
+fn lines(words: &[u32]) -> String {
+    let reply = face::tape(&tape::bytes(words), room(4 * words.len()));
+    let written = usize::try_from(reply.result).expect("a refusal");
+    String::from_utf8(reply.memory[..written].to_vec()).unwrap()
+}
+
+#[test]
+fn moduli_unknowns_and_equations_go_as_far_as_the_header_says() {
+    let (modulus, unknowns) = (limit("LARGEST_MODULUS") as u32, limit("MOST_UNKNOWNS") as u32);
+    assert_eq!(lines(&opening(modulus, unknowns)), format!("open {modulus} {unknowns}\n"));
+    assert_eq!(lines(&opening(modulus + 1, unknowns)), "refused 2\n");
+    assert_eq!(lines(&opening(modulus, unknowns + 1)), "refused 3\n");
+
+    let equations = limit("MOST_EQUATIONS");
+    let added: String = (1..=equations).map(|held| format!("added {held}\n")).collect();
+    let words = [opening(2, 1), equation(&[0, 0]).repeat(equations + 1)].concat();
+    assert_eq!(lines(&words), format!("open 2 1\n{added}refused 5\n"));
+}
+
+#[test]
+fn safes_and_blocks_are_as_large_as_the_header_says() {
+    let locks = limit("MOST_LOCKS");
+    let values = vec![word(ENTRY, 0); locks + 1];
+    assert_eq!(face::safe(2, 1, locks as u32, &values[..locks], locks).result, locks as i64);
+    assert_eq!(face::safe(2, 1, locks as u32 + 1, &values, locks + 1).result, -3);
+
+    let longest = limit("LONGEST_BLOCK");
+    assert_eq!(face::solve(2, 16, &[], longest).result, longest as i64);
+    assert_eq!(face::solve(2, 16, &[], longest - 1).result, -8);
+}
+
+#[test]
+fn a_claim_above_the_largest_head_is_read_word_by_word() {
+    let largest = limit("LARGEST_HEAD");
+    let claim = |head: usize| [vec![word(HEAD, head as u32)], vec![word(ENTRY, 0); head]].concat();
+    assert_eq!(lines(&[opening(2, 1), claim(largest)].concat()), "open 2 1\nfail\n");
+    let refused = "refused 1\n".repeat(largest + 2);
+    assert_eq!(lines(&[opening(2, 1), claim(largest + 1)].concat()), format!("open 2 1\n{refused}"));
+    assert_eq!(limit("LARGEST_NUMBER"), (1 << 28) - 1);
+}
+
+#[test]
+fn left_over_bytes_fill_the_room_of_a_tape_without_words() {
+    assert_eq!(face::tape(&[0; 3], room(3)).result, room(3) as i64);
+}
+
+/// Equations mod 61,440 in 16 unknowns with nearly the longest answer: 16 steps, and four digits less than if each number in a
+/// step's place and behind it had five. Each line has an equation's coefficients; those behind its last one are 0.
+const COEFFICIENTS: [&str; 16] = [
+    "5",
+    "14",
+    "113",
+    "0112",
+    "01012",
+    "110012",
+    "0010012",
+    "01111012",
+    "040214436",
+    "1000110112",
+    "10110101012",
+    "001000111012",
+    "3100155222556",
+    "02101021012013",
+    "010011000000112",
+    "0110110000000112",
+];
+
+/// The words of these equations: the sheet is opened, and they are added. The right sides fit a start in which each entry is as
+/// large as it can be: its step has the entry m / q, where q is the equation's last coefficient.
+fn long_answer() -> Vec<u32> {
+    let m = 61_440;
+    let digits = |line: &str| line.chars().map(|digit| digit.to_digit(10).unwrap()).collect::<Vec<u32>>();
+    let start: Vec<u32> = COEFFICIENTS.iter().map(|line| m / digits(line).last().unwrap() - 1).collect();
+    let mut words = opening(m, 16);
+    for line in COEFFICIENTS {
+        let mut numbers = digits(line);
+        let right = numbers.iter().zip(&start).map(|(a, x)| a * x).sum::<u32>() % m;
+        numbers.resize(16, 0);
+        words.extend(equation(&[numbers, vec![right]].concat()));
+    }
+    words
+}
+
+#[test]
+fn the_longest_tape_of_long_answers_fits_its_room_and_nearly_fills_it() {
+    let mut words = long_answer();
+    let before = lines(&words);
+    words.push(word(ANSWER, 0));
+    let all = lines(&words);
+    let answer = all.strip_prefix(&before).unwrap();
+    assert_eq!(answer.split_inclusive('\n').map(str::len).max(), Some(limit("LONGEST_LINE")));
+    assert_eq!(answer.lines().count(), limit("LARGEST_HEAD"));
+    assert_eq!(answer.len(), limit("LONGEST_ANSWER") - 4, "{answer}");
+
+    let longest = limit("LONGEST_TAPE");
+    words.resize(longest / 4, word(ANSWER, 0));
+    let length = lines(&words).len();
+    assert!(length > room(longest) / 100 * 97, "{length} bytes of {}", room(longest));
+    assert_eq!(face::tape(&vec![0; longest + 1], 0).result, -10);
+}
