@@ -1,6 +1,6 @@
 -- Laws about the definitions in specs/, for every crate above.
 -- The kit over any modulus: Congruent, Divides, Negative. Euclid's chain: Induction, Bezout, Columns, Gcd, Lame.
--- A reciprocal and a product without a division, and a remainder without a test: Inverse, Shoup, Masked.
+-- A reciprocal and a product without a division: Inverse, Shoup.
 -- One congruence: First, Solutions. What specs/Promises.antt promises: Promises.
 pub mod Congruent
 pub mod Divides
@@ -12,7 +12,6 @@ pub mod Gcd
 pub mod Lame
 pub mod Inverse
 pub mod Shoup
-pub mod Masked
 pub mod First
 pub mod Solutions
 pub mod Promises

@@ -4,8 +4,6 @@ ghost use mathlib.Core.Path.{_≡_};
 ghost use Prim.Native.Nat.{_+_, _*_, _/_, _%_, _≤_, _<_};
 ghost use Rattle.residue.specs.Inverse.{inverseOf};
 ghost use Rattle.residue.specs.Negative.{negative};
-use std::num::wrapping_add_u32;
-use std::num::wrapping_sub_u64;
 
 // Both numbers are residues, so that no division is made.
 pub fn add(a: u32, b: u32, m: u32) -> u32
@@ -72,14 +70,21 @@ pub fn reciprocal(a: u32, m: u32, inverse: u64) -> u32
     if rest < wide(m) { low } else { low + 1 }
 }
 
-// Shoup's product, for a factor a with its reciprocal u: the quotient of a·b by m is read off u + 1, without a division, and is
-// at most one too large.
+// Shoup's product, for a factor a with its reciprocal u.
 pub fn mul_by(a: u32, u: u32, b: u32, m: u32) -> u32
     requires { ⌜ (a < m) × (u ≡ a * 4294967296 / m) ⌝ }
     ensures { λ r. ⌜ (r ≡ (a * b) % m) × (r < m) ⌝ }
 {
-    let quotient = (product(u + 1, b) / 4294967296) as u32;
-    lift(wrapping_sub_u64(product(a, b), product(quotient, m)), m)
+    reduce_once(left_over(a, u, b, m), m)
+}
+
+// a·b without a multiple of m: the quotient is read off u, without a division, and is at most one too small.
+fn left_over(a: u32, u: u32, b: u32, m: u32) -> u64
+    requires { ⌜ (0 < m) × (u ≡ a * 4294967296 / m) ⌝ }
+    ensures { λ r. ⌜ (r % m ≡ (a * b) % m) × (r < 2 * m) ⌝ }
+{
+    let quotient = (product(u, b) / 4294967296) as u32;
+    product(a, b) - product(quotient, m)
 }
 
 // `combine` for two factors with their reciprocals, u that of s and v that of t. The test is of m alone, so that a loop over
@@ -91,19 +96,20 @@ pub fn combine_by(s: u32, u: u32, a: u32, t: u32, v: u32, b: u32, m: u32) -> u32
     if m <= 2147483648 {
         joint(s, u, a, t, v, b, m)
     } else {
-        add(mul_by(s, u, a, m), mul_by(t, v, b, m), m)
+        let sum = left_over(s, u, a, m) + left_over(t, v, b, m);
+        reduce_once(reduce_by_twice(sum, m), m)
     }
 }
 
-// One quotient for both products, read off both reciprocals as in `mul_by`. It is at most one too large where a + b is at most
+// One quotient for both products, read off both reciprocals as in `left_over`. It is at most one too small where a + b is at most
 // 2^32.
 fn joint(s: u32, u: u32, a: u32, t: u32, v: u32, b: u32, m: u32) -> u32
-    requires { ⌜ (s < m) × (u ≡ s * 4294967296 / m) × (t < m) × (v ≡ t * 4294967296 / m) × (a + b ≤ 4294967296) ⌝ }
+    requires { ⌜ (0 < m) × (u ≡ s * 4294967296 / m) × (v ≡ t * 4294967296 / m) × (a + b ≤ 4294967296) ⌝ }
     ensures { λ r. ⌜ (r ≡ (s * a + t * b) % m) × (r < m) ⌝ }
 {
-    let quotient = ((product(u + 1, a) + product(v + 1, b)) / 4294967296) as u32;
+    let quotient = ((product(u, a) + product(v, b)) / 4294967296) as u32;
     let sum = product(s, a) + product(t, b);
-    lift(wrapping_sub_u64(sum, product(quotient, m)), m)
+    reduce_once(sum - product(quotient, m), m)
 }
 
 pub fn wide(x: u32) -> u64
@@ -126,20 +132,51 @@ pub fn reduce(x: u64, m: u32) -> u32
     (x % wide(m)) as u32
 }
 
+// m is taken off at most once. Whether it is, is as good as random, so it is read off the highest bit of a sum: a comparison with m
+// becomes a jump that the processor cannot foresee. The test of m alone leaves the loops, as in `combine_by`.
 fn reduce_once(x: u64, m: u32) -> u32
     requires { ⌜ x < 2 * m ⌝ }
     ensures { λ r. ⌜ (r ≡ x % m) × (r < m) ⌝ }
 {
-    lift(wrapping_sub_u64(x, wide(m)), m)
+    if 2147483648 < m {
+        reduce_wide(x, m)
+    } else {
+        reduce_narrow(x as u32, m)
+    }
 }
 
-// A difference modulo 2^64, from -m up to m, made a residue. No test, which the processor could not foresee: the high word is all
-// ones where the difference is negative, and 0 elsewhere, so that it masks the m to be added.
-fn lift(difference: u64, m: u32) -> u32
-    requires { ⌜ (difference + m) % 18446744073709551616 < 2 * m ⌝ }
-    ensures { λ r. ⌜ (r ≡ (difference + m) % 18446744073709551616 % m) × (r < m) ⌝ }
+fn reduce_narrow(x: u32, m: u32) -> u32
+    requires { ⌜ (x < 2 * m) × (m ≤ 2147483648) ⌝ }
+    ensures { λ r. ⌜ (r ≡ x % m) × (r < m) ⌝ }
 {
-    let low = (difference % 4294967296) as u32;
-    let high = (difference / 4294967296) as u32;
-    wrapping_add_u32(low, m & high)
+    let raised = x + (2147483648 - m);
+    if raised < 2147483648 { x } else { x - m }
+}
+
+// The low word of the sum is that of x - m. 2^32 - m is taken off it where m is to be added: the compiler then works with 32 bits.
+fn reduce_wide(x: u64, m: u32) -> u32
+    requires { ⌜ x < 2 * m ⌝ }
+    ensures { λ r. ⌜ (r ≡ x % m) × (r < m) ⌝ }
+{
+    let raised = x + (9223372036854775808 - wide(m));
+    let low = (raised % 4294967296) as u32;
+    if raised < 9223372036854775808 {
+        low - (4294967295 - m + 1)
+    } else {
+        low
+    }
+}
+
+// 2·m is taken off at most once.
+fn reduce_by_twice(x: u64, m: u32) -> u64
+    requires { ⌜ x < 4 * m ⌝ }
+    ensures { λ r. ⌜ (r % m ≡ x % m) × (r < 2 * m) ⌝ }
+{
+    let twice = 2 * wide(m);
+    let raised = x + (9223372036854775808 - twice);
+    if raised < 9223372036854775808 {
+        x
+    } else {
+        x - twice
+    }
 }
