@@ -8,7 +8,8 @@ use native.Mathlib.Omega.{arith}
 use Rattle.residue.specs.Congruent.{Congruent}
 use Rattle.residue.proofs.Induction.{euclid-induction}
 use Rattle.residue.specs.Gcd.{gcd, gcd-zero, gcd-step}
-use Rattle.residue.specs.Bezout.{cofactors, cofactors-zero, cofactors-step}
+use Rattle.residue.specs.Bezout.{cofactors}
+use Rattle.residue.specs.Bezout.Steps.{cofactors-zero, cofactors-step}
 use Rattle.residue.proofs.Congruent.{congruent-of, congruent-of-eq, congruent-refl, congruent-trans, congruent-add, congruent-mul, congruent-mod}
 
 -- g divides a and b, with quotients q and p, and s·q + t·p ≡ 1

@@ -14,7 +14,8 @@ use native.Mathlib.Nat.{div-add-mod', sub-add-cancel, mod-eq-of-lt, div-eq-of-lt
 use native.Mathlib.Omega.{arith}
 use Rattle.residue.specs.Congruent.{Congruent}
 use Rattle.residue.specs.Negative.{negative}
-use Rattle.residue.specs.Bezout.{Cofactors, cofactors, cofactors-zero, cofactors-step}
+use Rattle.residue.specs.Bezout.{Cofactors, cofactors}
+use Rattle.residue.specs.Bezout.Steps.{cofactors-zero, cofactors-step}
 use Rattle.residue.proofs.Bezout.{cofactors-bezout}
 use Rattle.residue.proofs.Congruent.{congruent-of, congruent-of-eq, congruent-refl, congruent-sym, congruent-trans, congruent-add, congruent-mul, congruent-mod}
 use Rattle.residue.proofs.Negative.{negative-unique}
