@@ -1,7 +1,7 @@
 // Residue arithmetic: numbers of 32 bits, sums and products of 64 bits, and one equation with `%` for each function. The
 // result is always below m; what a function asks of its arguments is only what it computes with.
 ghost use mathlib.Core.Path.{_≡_};
-ghost use Prim.Native.Nat.{_+_, _*_, _/_, _%_, _≤_, _<_};
+ghost use Prim.Native.Nat.{_+_, _-_, _*_, _/_, _%_, _≤_, _<_};
 ghost use Rattle.residue.specs.Inverse.{inverseOf};
 ghost use Rattle.residue.specs.Negative.{negative};
 
@@ -70,25 +70,19 @@ pub fn reciprocal(a: u32, m: u32, inverse: u64) -> u32
     if rest < wide(m) { low } else { low + 1 }
 }
 
-// Shoup's product, for a factor a with its reciprocal u.
+// Shoup's product, for a factor a with its reciprocal u. The test is of m alone, so that a loop over one modulus makes it once.
 pub fn mul_by(a: u32, u: u32, b: u32, m: u32) -> u32
     requires { ⌜ (a < m) × (u ≡ a * 4294967296 / m) ⌝ }
     ensures { λ r. ⌜ (r ≡ (a * b) % m) × (r < m) ⌝ }
 {
-    reduce_once(left_over(a, u, b, m), m)
+    if 2147483648 < m {
+        reduce_once(left_over(a, u, b, m), m)
+    } else {
+        joint(a, u, b, 0, 0, 0, m)
+    }
 }
 
-// a·b without a multiple of m: the quotient is read off u, without a division, and is at most one too small.
-fn left_over(a: u32, u: u32, b: u32, m: u32) -> u64
-    requires { ⌜ (0 < m) × (u ≡ a * 4294967296 / m) ⌝ }
-    ensures { λ r. ⌜ (r % m ≡ (a * b) % m) × (r < 2 * m) ⌝ }
-{
-    let quotient = (product(u, b) / 4294967296) as u32;
-    product(a, b) - product(quotient, m)
-}
-
-// `combine` for two factors with their reciprocals, u that of s and v that of t. The test is of m alone, so that a loop over
-// one modulus makes it once.
+// `combine` for two factors with their reciprocals, u that of s and v that of t.
 pub fn combine_by(s: u32, u: u32, a: u32, t: u32, v: u32, b: u32, m: u32) -> u32
     requires { ⌜ (s < m) × (u ≡ s * 4294967296 / m) × (t < m) × (v ≡ t * 4294967296 / m) × (a < m) × (b < m) ⌝ }
     ensures { λ r. ⌜ (r ≡ (s * a + t * b) % m) × (r < m) ⌝ }
@@ -101,15 +95,47 @@ pub fn combine_by(s: u32, u: u32, a: u32, t: u32, v: u32, b: u32, m: u32) -> u32
     }
 }
 
-// One quotient for both products, read off both reciprocals as in `left_over`. It is at most one too small where a + b is at most
-// 2^32.
+// One quotient for both products, read off u + 1 and v + 1 without a division. It is at most one too large where a + b is at most
+// 2^32. With 2^32 added, what is left is not negative.
 fn joint(s: u32, u: u32, a: u32, t: u32, v: u32, b: u32, m: u32) -> u32
-    requires { ⌜ (0 < m) × (u ≡ s * 4294967296 / m) × (v ≡ t * 4294967296 / m) × (a + b ≤ 4294967296) ⌝ }
+    requires { ⌜ (s < m) × (u ≡ s * 4294967296 / m) × (t < m) × (v ≡ t * 4294967296 / m) × (a + b ≤ 4294967296)
+        × (m ≤ 2147483648) ⌝ }
     ensures { λ r. ⌜ (r ≡ (s * a + t * b) % m) × (r < m) ⌝ }
 {
-    let quotient = ((product(u, a) + product(v, b)) / 4294967296) as u32;
+    let quotient = ((product(u + 1, a) + product(v + 1, b)) / 4294967296) as u32;
     let sum = product(s, a) + product(t, b);
-    reduce_once(sum - product(quotient, m), m)
+    lift(sum + 4294967296 - product(quotient, m), m)
+}
+
+// A number from -m up to m, to which 2^32 was added, made a residue. Where it is negative, its low word has the highest bit. Nothing
+// is compared with m: what is as good as random would become a jump that the processor cannot foresee.
+fn lift(x: u64, m: u32) -> u32
+    requires { ⌜ (4294967296 ≤ x + m) × (x < 4294967296 + m) × (m ≤ 2147483648) ⌝ }
+    ensures { λ r. ⌜ (r ≡ (x + m - 4294967296) % m) × (r < m) ⌝ }
+{
+    let low = (x % 4294967296) as u32;
+    if low < 2147483648 {
+        low
+    } else {
+        add_beyond(low, m)
+    }
+}
+
+// low + m, where that is 2^32 or more, without 2^32.
+fn add_beyond(low: u32, m: u32) -> u32
+    requires { ⌜ (0 < m) × (4294967296 ≤ low + m) ⌝ }
+    ensures { λ r. ⌜ r ≡ low + m - 4294967296 ⌝ }
+{
+    low - (4294967295 - m + 1)
+}
+
+// a·b without a multiple of m, for m above 2^31: the quotient is read off u, and is at most one too small.
+fn left_over(a: u32, u: u32, b: u32, m: u32) -> u64
+    requires { ⌜ (0 < m) × (u ≡ a * 4294967296 / m) ⌝ }
+    ensures { λ r. ⌜ (r % m ≡ (a * b) % m) × (r < 2 * m) ⌝ }
+{
+    let quotient = (product(u, b) / 4294967296) as u32;
+    product(a, b) - product(quotient, m)
 }
 
 pub fn wide(x: u32) -> u64
@@ -132,36 +158,15 @@ pub fn reduce(x: u64, m: u32) -> u32
     (x % wide(m)) as u32
 }
 
-// m is taken off at most once. Whether it is, is as good as random, so it is read off the highest bit of a sum: a comparison with m
-// becomes a jump that the processor cannot foresee. The test of m alone leaves the loops, as in `combine_by`.
+// m is taken off at most once. The highest bit of the sum tells whether, as in `lift`; its low word is that of x - m.
 fn reduce_once(x: u64, m: u32) -> u32
-    requires { ⌜ x < 2 * m ⌝ }
-    ensures { λ r. ⌜ (r ≡ x % m) × (r < m) ⌝ }
-{
-    if 2147483648 < m {
-        reduce_wide(x, m)
-    } else {
-        reduce_narrow(x as u32, m)
-    }
-}
-
-fn reduce_narrow(x: u32, m: u32) -> u32
-    requires { ⌜ (x < 2 * m) × (m ≤ 2147483648) ⌝ }
-    ensures { λ r. ⌜ (r ≡ x % m) × (r < m) ⌝ }
-{
-    let raised = x + (2147483648 - m);
-    if raised < 2147483648 { x } else { x - m }
-}
-
-// The low word of the sum is that of x - m. 2^32 - m is taken off it where m is to be added: the compiler then works with 32 bits.
-fn reduce_wide(x: u64, m: u32) -> u32
     requires { ⌜ x < 2 * m ⌝ }
     ensures { λ r. ⌜ (r ≡ x % m) × (r < m) ⌝ }
 {
     let raised = x + (9223372036854775808 - wide(m));
     let low = (raised % 4294967296) as u32;
     if raised < 9223372036854775808 {
-        low - (4294967295 - m + 1)
+        add_beyond(low, m)
     } else {
         low
     }
