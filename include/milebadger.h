@@ -135,9 +135,9 @@ int64_t milebadger_tape(const uint8_t *tape, size_t tape_len, uint8_t *out, size
 
 /* Words: the kind in the top 4 bits, the number in the low 28. And the number of a word.
  *
- * A number below 0 or above MILEBADGER_LARGEST_NUMBER makes a word of another kind; minus 1 mod m is m - 1. In C11 and
- * later, such a constant does not compile. Numbers that are known only when the program runs are not looked at, nor any
- * in C99 and C++. Each macro evaluates its argument once, and is a constant where that is one. */
+ * A number below 0 or above MILEBADGER_LARGEST_NUMBER makes a word of another kind or with another number; minus 1 mod m
+ * is m - 1. In C11 and later, such a constant does not compile. Numbers that are known only when the program runs are
+ * not looked at, nor any in C99 and C++. Each macro evaluates its argument once, and is a constant where that is one. */
 #define MILEBADGER_MODULUS(m) MILEBADGER_WORD(1, m)
 #define MILEBADGER_UNKNOWNS(n) MILEBADGER_WORD(2, n)
 #define MILEBADGER_COEFFICIENT(a) MILEBADGER_WORD(3, a)

@@ -127,7 +127,8 @@ pub record Decided (calls : List Call) : Type 0 where
   pub marking : (ws : List ℕ)
       → markedOf (ledgerOf (after calls)) ws
       ≡ unlessRefused Marked·Refused (refusalOf (ledger calls) (marks ws)) (cond (claimPasses (ledger calls) ws) Pass Fail)
-  -- "and then the sheet and all lent memory hold what they held"
+  -- "and then the sheet and all lent memory hold what they held": the sheet after every call, since a caller has one after marks,
+  -- answers and words that pick no call too
   pub sheetKept : (c : Call) → 0 < refusalOf (ledger calls) c → left (after calls) c ≡ after calls
   pub bufferKept : (c : Call) (a : Asks c) (old : List ℕ) → 0 < refusalOf (ledger calls) c
       → bufferAfter (ledgerOf (after calls)) a old ≡ old
