@@ -1,5 +1,8 @@
 // The questions that each call asks: the number of the first whose answer is no, or 0 where the call is accepted.
 ghost use mathlib.Core.Path.{_≡_};
+ghost use mathlib.Core.List.{[], _∷_};
+ghost use lib.Dec.{ltb};
+ghost use Rattle.questions.specs.Questions.{asks, firstNo};
 ghost use Rattle.ledger.specs.Calls.{opens, adds, strikes, marks, strikesFromTape, answersFromTape};
 ghost use Rattle.ledger.specs.Ledger.{unopened, isOpened};
 ghost use Rattle.ledger.specs.Questions.{refusalOf, allowedUnknowns};
@@ -81,10 +84,7 @@ pub(crate) fn strike_refusal(sheet: Sheet) -> u32
     if !is_opened(sheet) {
         return 4;
     }
-    if held == 0 {
-        return 7;
-    }
-    0
+    held_refusal(held)
 }
 
 pub(crate) fn strike_word_refusal(sheet: Sheet, word: u32) -> u32
@@ -97,6 +97,13 @@ pub(crate) fn strike_word_refusal(sheet: Sheet, word: u32) -> u32
     if number(word) != 0 {
         return 1;
     }
+    held_refusal(held)
+}
+
+// Whether there is an equation to strike.
+fn held_refusal(held: usize) -> u32
+    ensures { λ r. ⌜ r ≡ firstNo (asks 7 (ltb 0 held) ∷ []) ⌝ }
+{
     if held == 0 {
         return 7;
     }
