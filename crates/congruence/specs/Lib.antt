@@ -1,1 +1,2 @@
+-- One congruence as a call, with its questions.
 pub mod Congruence

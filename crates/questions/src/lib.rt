@@ -1,8 +1,8 @@
-// The question that all calls with a modulus ask of it.
+// The test of a modulus that the sheet, the safe and one congruence make.
 ghost use mathlib.Core.Path.{_≡_};
 ghost use Rattle.questions.specs.Questions.{allowedModulus};
 
-pub const LARGEST_MODULUS: u32 = 65535;
+const LARGEST_MODULUS: u32 = 65535;
 
 pub fn is_modulus(m: u32) -> bool
     ensures { λ r. ⌜ r ≡ allowedModulus m ⌝ }

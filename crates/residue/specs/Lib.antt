@@ -1,5 +1,5 @@
 -- Read in this order: Congruent, Divides, Negative, Euclid, Gcd, Digits, Chain, Bezout,
--- Cofactors, Inverse, Congruence, Promises.
+-- Cofactors, Inverse, Congruence, Promises. Counted need not be read.
 pub mod Congruent
 pub mod Divides
 pub mod Negative
@@ -12,5 +12,4 @@ pub mod Cofactors
 pub mod Inverse
 pub mod Congruence
 pub mod Promises
--- Counted need not be read.
 pub mod Counted
