@@ -2,6 +2,7 @@
 ghost use mathlib.Core.Path.{_≡_};
 ghost use Rattle.questions.specs.Questions.{firstNo};
 ghost use Rattle.congruence.specs.Congruence.{congruenceQuestions, congruenceOf};
+use questions::ask;
 use questions::is_modulus;
 use residue::congruence::Solutions;
 use residue::congruence::solve as solve_one;
@@ -31,14 +32,8 @@ pub fn solve(a: u32, b: u32, m: u32) -> Solved
 fn refusal(a: u32, b: u32, m: u32) -> u32
     ensures { λ r. ⌜ r ≡ firstNo (congruenceQuestions a b m) ⌝ }
 {
-    if !is_modulus(m) {
-        return 2;
-    }
-    if a >= m {
-        return 6;
-    }
-    if b >= m {
-        return 6;
-    }
-    0
+    let a_below = a < m;
+    let b_below = b < m;
+    let modulus = ask(0, 2, is_modulus(m));
+    ask(modulus, 6, a_below & b_below)
 }

@@ -10,17 +10,19 @@ use Prim.Native.Nat.{ℕ, _*_}
 use native.Mathlib.Omega.{arith}
 use lib.Dec.{T}
 use lib.ListN.{length, drop}
+use Rattle.questions.specs.Reply.{memoryAfter}
 use Rattle.residue.specs.Congruent.{Congruent}
 use Rattle.residue.specs.Congruence.{leastOf, solutionsOf}
 use Rattle.residue.specs.Euclid.{euclid}
 use Rattle.residue.specs.Gcd.{gcd}
 use Rattle.congruence.specs.declared.Solved.the-variants.{NoSolution, Solutions}
 use Rattle.congruence.specs.Congruence.{congruenceOf}
+use Rattle.equations.specs.declared.Mark.the-variants.{Pass, Fail}
 use Rattle.equations.specs.Equation.{Equation}
 use Rattle.equations.specs.Answer.{startOf, stepAt, stepsOf}
 use Rattle.equations.specs.Lines.{equationsOf}
 use Rattle.equations.specs.Multipliers.{refutes}
-use Rattle.equations.specs.Claim.{from, describes, passes}
+use Rattle.equations.specs.Claim.{from, describes, passes, markOf}
 use Rattle.equations.specs.Promises.{ZeroEquation, ContradictoryEquation}
 use Rattle.equations.proofs.Truth.{true-of}
 use Rattle.equations.proofs.Vectors.{all-below}
@@ -29,15 +31,15 @@ use Rattle.equations.proofs.Promises.{zero-equation, contradictory-equation}
 use Rattle.system.specs.Block.{blockOf}
 use Rattle.system.specs.Claims.{claimOf, vectorsOf}
 use Rattle.system.proofs.Promises.{answered}
-use Rattle.words.specs.Words.{word, wordsOf, haveKinds, modulusKind, unknownsKind, coefficientKind, rightKind, headKind, entryKind, multiplierKind}
+use Rattle.words.specs.Words.{word, wordsIn, wordsOf, modulusKind, unknownsKind, coefficientKind, rightKind, headKind, entryKind, multiplierKind}
 use Rattle.ledger.specs.Ledger.{opened}
 use Rattle.ledger.specs.Block.{answerWords}
-use Rattle.ledger.specs.Calls.{Call, opens, adds, strikes}
+use Rattle.ledger.specs.Calls.{opens, adds, strikes, Call, enters}
 use Rattle.ledger.specs.Questions.{refusalOf}
 use Rattle.sheet.specs.declared.marking.Marked.{Marked}
-use Rattle.sheet.specs.declared.marking.Marked.the-variants.{Pass, Fail}
+use Rattle.sheet.specs.declared.marking.Marked.the-variants.{Gets}
 use Rattle.sheet.specs.Record.{fresh, ledgerOf}
-use Rattle.sheet.specs.Calls.{asking, turnOf, sheetAfter, bufferAfter, markedOf}
+use Rattle.sheet.specs.Calls.{turnOf, sheetAfter, bufferAfter, markedOf}
 use Rattle.sheet.specs.History.{after, sheetFrom}
 
 -- coefficients and a right side, as the paper writes an equation
@@ -50,10 +52,10 @@ Answered m n es start steps = (startOf m n es ≡ some start) × (stepsOf m n es
 
 -- the words of an opening and of an equation, as the calls get them
 abbrev pub opening : ℕ → ℕ → Call
-opening m n = opens (word modulusKind m ∷ word unknownsKind n ∷ [])
+opening m n = enters (opens (word modulusKind m ∷ word unknownsKind n ∷ []))
 
 abbrev pub adding : List ℕ → ℕ → Call
-adding as′ b = adds (wordsOf coefficientKind as′ ++ (word rightKind b ∷ []))
+adding as′ b = enters (adds (wordsOf coefficientKind as′ ++ (word rightKind b ∷ [])))
 
 -- head and entries of a claim or of an answer block
 abbrev pub block : ℕ → List ℕ → List ℕ
@@ -61,7 +63,7 @@ block head xs = word headKind head ∷ wordsOf entryKind xs
 
 -- what a buffer that held `old` holds after an answer, asked for after the calls
 abbrev pub buffer : List Call → List ℕ → List ℕ
-buffer calls old = bufferAfter (ledgerOf (after calls)) (asking old) old
+buffer calls old = bufferAfter (ledgerOf (after calls)) old
 
 -- what marking says after the calls
 abbrev pub marked : List Call → List ℕ → Marked
@@ -132,16 +134,18 @@ oneTwoIsZeroCalls = opening 4 2 ∷ adding (1 ∷ 2 ∷ []) 0 ∷ []
 
 pub one-two-is-zero-answered : (x : ℕ)
     → buffer oneTwoIsZeroCalls (x ∷ x ∷ x ∷ x ∷ x ∷ x ∷ x ∷ x ∷ []) ≡ block 3 (0 ∷ 0 ∷ 2 ∷ 1 ∷ 0 ∷ 2 ∷ []) ++ (x ∷ [])
-unfolding sheetFrom fresh turnOf sheetAfter ledgerOf bufferAfter refusalOf haveKinds equationsOf answerWords blockOf startOf
-    stepsOf stepAt flatten
+unfolding sheetFrom fresh turnOf sheetAfter ledgerOf bufferAfter memoryAfter refusalOf wordsIn equationsOf answerWords blockOf
+    startOf stepsOf stepAt flatten
 one-two-is-zero-answered x = refl
 
-pub step-two-three-marked : marked oneTwoIsZeroCalls (block 2 (0 ∷ 0 ∷ 2 ∷ 3 ∷ [])) ≡ Pass
-unfolding sheetFrom fresh turnOf sheetAfter ledgerOf markedOf refusalOf haveKinds equationsOf claimOf vectorsOf passes describes
+pub step-two-three-marked : marked oneTwoIsZeroCalls (block 2 (0 ∷ 0 ∷ 2 ∷ 3 ∷ [])) ≡ Gets Pass
+unfolding sheetFrom fresh turnOf sheetAfter ledgerOf markedOf refusalOf wordsIn equationsOf claimOf vectorsOf markOf
+    passes describes
 step-two-three-marked = refl
 
-pub step-zero-two-marked : marked oneTwoIsZeroCalls (block 2 (0 ∷ 0 ∷ 0 ∷ 2 ∷ [])) ≡ Fail
-unfolding sheetFrom fresh turnOf sheetAfter ledgerOf markedOf refusalOf haveKinds equationsOf claimOf vectorsOf passes describes
+pub step-zero-two-marked : marked oneTwoIsZeroCalls (block 2 (0 ∷ 0 ∷ 0 ∷ 2 ∷ [])) ≡ Gets Fail
+unfolding sheetFrom fresh turnOf sheetAfter ledgerOf markedOf refusalOf wordsIn equationsOf claimOf vectorsOf markOf
+    passes describes
 step-zero-two-marked = refl
 
 -- "m=6: 2x=4, 3x=3: from 5, no step."
@@ -172,11 +176,11 @@ abbrev pub withZeroCalls : List Call
 withZeroCalls = twoAndThreeCalls ++ (adding (1 ∷ []) 0 ∷ [])
 
 abbrev pub struckCalls : List Call
-struckCalls = withZeroCalls ++ (strikes ∷ [])
+struckCalls = withZeroCalls ++ (enters strikes ∷ [])
 
 pub two-and-three-answered : (x y z : ℕ) → buffer twoAndThreeCalls (x ∷ y ∷ z ∷ []) ≡ block 1 (5 ∷ []) ++ (z ∷ [])
-unfolding sheetFrom fresh turnOf sheetAfter ledgerOf bufferAfter refusalOf haveKinds equationsOf answerWords blockOf startOf
-    stepsOf stepAt flatten
+unfolding sheetFrom fresh turnOf sheetAfter ledgerOf bufferAfter memoryAfter refusalOf wordsIn equationsOf answerWords blockOf
+    startOf stepsOf stepAt flatten
 two-and-three-answered x y z = refl
 
 abbrev withZeroLines : List ℕ
@@ -208,7 +212,7 @@ with-zero-refutes =
 -- a block of four words fits a buffer of four
 with-zero-fits : (x : ℕ) (ks : List ℕ) → length ks ≡ 3 → blockOf 6 1 withZero ≡ 0 ∷ ks
     → buffer withZeroCalls (x ∷ x ∷ x ∷ x ∷ []) ≡ word headKind 0 ∷ wordsOf multiplierKind ks
-unfolding sheetFrom fresh turnOf sheetAfter ledgerOf bufferAfter refusalOf haveKinds equationsOf answerWords
+unfolding sheetFrom fresh turnOf sheetAfter ledgerOf bufferAfter memoryAfter refusalOf wordsIn equationsOf answerWords
 with-zero-fits x [] l e = absurd (omega arith)
 with-zero-fits x (a ∷ []) l e = absurd (omega arith)
 with-zero-fits x (a ∷ b ∷ []) l e = absurd (omega arith)
@@ -225,13 +229,13 @@ with-zero-answered x = (
 )
 
 pub with-zero-held : ledgerOf (after withZeroCalls) ≡ opened 6 1 withZero
-unfolding sheetFrom fresh turnOf sheetAfter ledgerOf refusalOf haveKinds equationsOf
+unfolding sheetFrom fresh turnOf sheetAfter ledgerOf refusalOf wordsIn equationsOf
 with-zero-held = refl
 
 -- "Strike: from 5 again."
 pub struck-answered : (x y z : ℕ) → buffer struckCalls (x ∷ y ∷ z ∷ []) ≡ block 1 (5 ∷ []) ++ (z ∷ [])
-unfolding sheetFrom fresh turnOf sheetAfter ledgerOf bufferAfter refusalOf haveKinds equationsOf answerWords blockOf startOf
-    stepsOf stepAt flatten
+unfolding sheetFrom fresh turnOf sheetAfter ledgerOf bufferAfter memoryAfter refusalOf wordsIn equationsOf answerWords blockOf
+    startOf stepsOf stepAt flatten
 struck-answered x y z = refl
 
 -- "0x=0 changes nothing": for every m, n and list, wherever it stands there

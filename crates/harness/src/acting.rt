@@ -1,28 +1,29 @@
 // One call of a script, by the table of operations in `lib.rt`. Where its outcome or its buffer has no room, the state stays as
 // it is.
-use crate::telling::State;
-use crate::telling::Told;
-use crate::telling::narrow;
-use crate::telling::tell;
+use crate::outcomes::State;
+use crate::outcomes::Told;
+use crate::outcomes::narrow;
+use crate::outcomes::tell;
+use blocks::write_block;
+use equations::Mark;
 use sheet::Entered;
 use sheet::Sheet;
 use sheet::Turn;
 use sheet::answering::Answered;
 use sheet::marking::Marked;
 use slices::copying::copy;
+use system::limits::BLOCK;
 
 // The words of an outcome.
 const OUTCOME: usize = 2;
 
-// The buffer of an answer from tape: the longest block fits it, a head and 17 vectors of 16 entries.
-const BUFFER: usize = 273;
-
-// 0xC0DEC0DE, in every word of that buffer before the answer.
+// 0xC0DEC0DE, in every word of the buffer of an answer from tape before the answer.
 const FILL: u32 = 3235823838;
 
+// What an answer from tape gave, in a buffer that the longest block fits.
 struct Filled {
     answered: Answered,
-    buffer: [u32; BUFFER],
+    buffer: [u32; BLOCK],
 }
 
 pub(crate) fn act(state: State, operation: u32, words: &[u32], out: &mut [u32]) -> State {
@@ -80,8 +81,10 @@ fn first(words: &[u32]) -> u32 {
 fn mark(sheet: Sheet, words: &[u32]) -> Told {
     let marked = sheet.mark(words);
     match marked {
-        Marked::Pass => Told { case: 3, value: 0 },
-        Marked::Fail => Told { case: 4, value: 0 },
+        Marked::Gets(given) => match given {
+            Mark::Pass => Told { case: 3, value: 0 },
+            Mark::Fail => Told { case: 4, value: 0 },
+        },
         Marked::Refused(number) => Told {
             case: 0,
             value: number,
@@ -131,7 +134,7 @@ fn answer_from_tape(state: State, words: &[u32], out: &mut [u32]) -> State {
     if out.len() < at {
         return state;
     }
-    if out.len() - at < OUTCOME + BUFFER {
+    if out.len() - at < OUTCOME + BLOCK {
         return state;
     }
     let block = at + OUTCOME;
@@ -139,14 +142,26 @@ fn answer_from_tape(state: State, words: &[u32], out: &mut [u32]) -> State {
     let answered = filled.answered;
     let buffer = filled.buffer;
     copy(&buffer, &mut out[block..]);
-    tell_answer(state, answered, block, BUFFER, out)
+    tell_answer(state, answered, block, BLOCK, out)
 }
 
+// The call gives numbers. They are made words here, so that an answer from tape is compared and marked like any other.
 fn fill(sheet: Sheet, word: u32) -> Filled {
-    let mut buffer = [FILL; BUFFER];
-    let answered = sheet.answer_from_tape(word, &mut buffer);
+    let mut buffer = [FILL; BLOCK];
+    let shown = sheet.answer_from_tape(word);
+    if shown.refused != 0 {
+        return Filled {
+            answered: Answered::Refused(shown.refused),
+            buffer: buffer,
+        };
+    }
+    let seen = sheet.seen();
+    let block = shown.block;
+    let len = block.len;
+    let numbers = block.numbers;
+    write_block(block.head, seen.unknowns, &numbers[..len], &mut buffer);
     Filled {
-        answered: answered,
+        answered: Answered::Wrote(len + 1),
         buffer: buffer,
     }
 }

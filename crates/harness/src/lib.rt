@@ -14,12 +14,12 @@
 //   8           answer from tape      the answer's word
 //   3, others   strike                none
 pub mod acting;
-pub mod telling;
+pub mod outcomes;
 
 use crate::acting::act;
-use crate::telling::State;
-use crate::telling::narrow;
-use crate::telling::wide;
+use crate::outcomes::State;
+use crate::outcomes::narrow;
+use crate::outcomes::wide;
 use sheet::Sheet;
 
 #[no_mangle]

@@ -3,10 +3,9 @@ pub mod Unopened
 pub mod Shapes
 pub mod Blocks
 pub mod Answer
-pub mod Claims
 pub mod Own
 pub mod Questions
 pub mod Refusals
-pub mod Entered
+pub mod Effects
 pub mod History
 pub mod Sound

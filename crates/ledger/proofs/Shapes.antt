@@ -1,40 +1,73 @@
--- How many words an opening and an equation have, and the tests of a claim one by one.
---   opening-length                     an opening has two words
---   equation-length, equation-other    an equation has n + 1 words
---   claim-is, claim-none               the head's number and kind, and the kinds behind it; no words are no claim
-use mathlib.Core.Path.{_≡_, refl, ap, _∙_}
-use mathlib.Core.Bool.{Bool, true, false, _&&_}
+-- How many words an opening, an equation and a claim have, and what follows for their numbers.
+--   opening-length     an opening has two words
+--   equation-length    an equation has n + 1
+--   claim-head         a claim's head is at most 17
+--   claim-length       and counts the vectors of n words behind it,
+--   claim-some         so that there is a head,
+--   claim-fits         and behind it no more words than 17 vectors of 16 entries
+--   claimed            its entries are whole vectors
+use mathlib.Core.Path.{_≡_, sym, ap, _∙_}
+use mathlib.Core.Bool.{true}
 use mathlib.Core.List.{List, [], _∷_, _++_}
-use Prim.Native.Nat.{ℕ, _+_, _*_, _<_}
-use lib.Dec.{eqb, leb}
-use lib.ListN.{length, drop, getD, replicate, length-append, length-replicate}
-use Rattle.words.specs.Words.{kindOf, haveKinds, modulusKind, unknownsKind, coefficientKind, rightKind, headKind, entryKind}
-use Rattle.words.proofs.Words.{have-kinds-length, have-kinds-other, have-kinds-head}
-use Rattle.ledger.specs.Shapes.{numberAt, isOpening, isEquation, isClaim, largestHead}
+use Prim.Native.Nat.{ℕ, suc, _+_, _*_, _%_, _<_, _≤_}
+use native.Mathlib.Nat.{mul-le-mul, mul-mod-left}
+use native.Mathlib.Omega.{arith}
+use lib.Dec.{T, leb, leb→le}
+use lib.ListN.{length, replicate, length-drop, length-append, length-replicate}
+use mir.Facts.{and-yes}
+use Rattle.equations.specs.Multipliers.{allBelow}
+use Rattle.equations.proofs.Truth.{true-of}
+use Rattle.equations.proofs.Vectors.{all-below}
+use Rattle.system.specs.Claims.{Claimed}
+use Rattle.words.specs.Words.{wordsIn, kindsOf, numbersOf, haveKinds, modulusKind, unknownsKind, coefficientKind, rightKind, headKind, entryKind}
+use Rattle.words.proofs.Compared.{kinds-length}
+use Rattle.words.proofs.Words.{kinds-count, numbers-count}
+use Rattle.ledger.specs.Shapes.{numberAt, isOpening, isEquation, isClaim, entriesOf, largestHead}
 
-pub opening-length : (ws : List ℕ) → isOpening ws ≡ true → length ws ≡ 2
-opening-length ws h = have-kinds-length ws (modulusKind ∷ unknownsKind ∷ []) h
+-- as many words as kinds
+have-length : (ws ks : List ℕ) → haveKinds (wordsIn ws) ks ≡ true → length ws ≡ length ks
+have-length ws ks h = sym (kinds-count ws) ∙ kinds-length (kindsOf (wordsIn ws)) ks h
 
-equation-kinds : (n : ℕ) → length (replicate n coefficientKind ++ (rightKind ∷ [])) ≡ n + 1
+pub opening-length : (ws : List ℕ) → isOpening (wordsIn ws) ≡ true → length ws ≡ 2
+opening-length ws h = have-length ws (modulusKind ∷ unknownsKind ∷ []) h
+
+pub equation-kinds : (n : ℕ) → length (replicate n coefficientKind ++ (rightKind ∷ [])) ≡ n + 1
 equation-kinds n =
     length-append (replicate n coefficientKind) (rightKind ∷ [])
     ∙ ap (λ (k : ℕ). k + 1) (length-replicate n coefficientKind)
 
-pub equation-length : (n : ℕ) (ws : List ℕ) → isEquation n ws ≡ true → length ws ≡ n + 1
-equation-length n ws h = have-kinds-length ws (replicate n coefficientKind ++ (rightKind ∷ [])) h ∙ equation-kinds n
+pub equation-length : (n : ℕ) (ws : List ℕ) → isEquation n (wordsIn ws) ≡ true → length ws ≡ n + 1
+equation-length n ws shape = have-length ws (replicate n coefficientKind ++ (rightKind ∷ [])) shape ∙ equation-kinds n
 
-pub equation-other : (n : ℕ) (ws : List ℕ) → (length ws ≡ n + 1 → ⊥) → isEquation n ws ≡ false
-equation-other n ws h =
-    have-kinds-other ws (replicate n coefficientKind ++ (rightKind ∷ [])) (λ e. h (e ∙ equation-kinds n))
+module _ (n : ℕ) (ws : List ℕ) (shape : T (isClaim n (wordsIn ws))) where
+  abbrev head : ℕ
+  head = numberAt (wordsIn ws) 0
 
-pub claim-is : (n : ℕ) (ws : List ℕ) → 0 < length ws
-    → isClaim n ws
-    ≡ (leb (numberAt ws 0) largestHead && (eqb (kindOf (getD ws 0 0)) headKind
-    && haveKinds (drop 1 ws) (replicate (numberAt ws 0 * n) entryKind)))
-claim-is n ws some =
-    ap (λ (b : Bool). leb (numberAt ws 0) largestHead && b)
-    (have-kinds-head ws headKind (replicate (numberAt ws 0 * n) entryKind) some)
+  abbrev kinds : List ℕ
+  kinds = headKind ∷ replicate (head * n) entryKind
 
-pub claim-none : (n : ℕ) → isClaim n [] ≡ false
-unfolding haveKinds
-claim-none n = refl
+  tests : T (leb head largestHead) × T (haveKinds (wordsIn ws) kinds)
+  tests = and-yes (leb head largestHead) (haveKinds (wordsIn ws) kinds) shape
+
+  pub claim-head : numberAt (wordsIn ws) 0 ≤ largestHead
+  claim-head = leb→le head largestHead (tests .0)
+
+  pub claim-length : length ws ≡ suc (numberAt (wordsIn ws) 0 * n)
+  claim-length =
+      have-length ws kinds (true-of (haveKinds (wordsIn ws) kinds) (tests .1)) ∙ ap suc (length-replicate (head * n) entryKind)
+
+  pub claim-some : 0 < length ws
+  claim-some = omega (arith, claim-length)
+
+  pub claim-fits : n ≤ 16 → length ws ≤ 273
+  claim-fits h = omega (arith, claim-length, mul-le-mul {n₁ = head} {m₁ = n} {n₂ = largestHead} {m₂ = 16} claim-head h)
+
+  entries-length : length (entriesOf (wordsIn ws)) ≡ head * n
+  entries-length = length-drop 1 (numbersOf (wordsIn ws)) ∙ omega (arith, claim-length, numbers-count ws)
+
+  pub claimed : (m : ℕ) → T (allBelow m (entriesOf (wordsIn ws))) → Claimed m n (entriesOf (wordsIn ws))
+  claimed m below =
+      record {
+        whole = ap (λ (k : ℕ). k % n) entries-length ∙ mul-mod-left head n;
+        residues = all-below m (entriesOf (wordsIn ws)) .0 below;
+      }

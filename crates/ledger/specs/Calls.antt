@@ -2,16 +2,22 @@
 use mathlib.Core.List.{List}
 use Prim.Native.Nat.{ℕ}
 
--- A call, "with its arguments other than the sheet". Words and buffers are given by what "their memory holds at that call".
--- "An answer word on tape with a number other than 0 is a refused call", and so is a strike word: calls from tape that have
--- their word among their arguments.
+-- The calls that open, add or strike, each "with its arguments other than the sheet". Words and buffers are given by what "their
+-- memory holds at that call". "An answer word on tape with a number other than 0 is a refused call", and so is a strike word: calls
+-- from tape that have their word among their arguments.
+pub data Entry : Type 0 where
+  opens : List ℕ → Entry
+  adds : List ℕ → Entry
+  strikes : Entry
+  strikesFromTape : ℕ → Entry
+
+-- "those that neither open, add nor strike"; meaningless: a first word on tape that picks no call
+pub data Query : Type 0 where
+  answers : List ℕ → Query
+  answersFromTape : ℕ → Query
+  marks : List ℕ → Query
+  meaningless : ℕ → Query
+
 pub data Call : Type 0 where
-  opens : List ℕ → Call
-  adds : List ℕ → Call
-  strikes : Call
-  answers : List ℕ → Call
-  marks : List ℕ → Call
-  strikesFromTape : ℕ → Call
-  answersFromTape : ℕ → Call
-  -- a first word on tape that picks no call
-  meaningless : ℕ → Call
+  enters : Entry → Call
+  queries : Query → Call

@@ -1,42 +1,47 @@
--- The ledger after a call, and after a list of calls. It "is fed the calls alone" and "sees neither the sheet's own
--- record nor what a call gives back". Definitions only.
+-- What an accepted call that opens, adds or strikes does to a ledger; the ledger after a call, and after a list of calls. It "is fed the
+-- calls alone" and "sees neither the sheet's own record nor what a call gives back". Definitions only.
 use mathlib.Core.List.{List, [], _∷_, _++_}
-use Prim.Native.Nat.{ℕ, _-_}
-use lib.ListN.{length, take}
+use Prim.Native.Nat.{ℕ, suc, _-_}
+use lib.ListN.{length, take, drop}
 use Rattle.questions.specs.Questions.{unlessRefused}
-use Rattle.ledger.specs.Ledger.{Ledger, unopened, opened}
+use Rattle.equations.specs.Equation.{Equation}
+use Rattle.words.specs.Words.{wordsIn}
+use Rattle.ledger.specs.Ledger.{Ledger, unopened, opened, unknownsOf, equationsIn}
 use Rattle.ledger.specs.Shapes.{numberAt, equationFrom}
-use Rattle.ledger.specs.Calls.{Call, opens, adds, strikes, answers, marks, strikesFromTape, answersFromTape, meaningless}
+use Rattle.ledger.specs.Calls.{Entry, opens, adds, strikes, strikesFromTape, Call, enters, queries}
 use Rattle.ledger.specs.Questions.{refusalOf}
 
--- the equation at the end; an unopened ledger has no list
-abbrev pub extended : Ledger → List ℕ → Ledger
-extended unopened ws = unopened
-extended (opened m n es) ws = opened m n (es ++ (equationFrom n ws ∷ []))
+-- m and n with no equations; an equation more; the equation at this place, counted from 0, gone
+pub data Effect : Type 0 where
+  begins : ℕ → ℕ → Effect
+  gains : Equation → Effect
+  loses : ℕ → Effect
 
--- "the last equation goes"
-abbrev pub shortened : Ledger → Ledger
-shortened unopened = unopened
-shortened (opened m n es) = opened m n (take (length es - 1) es)
-
--- the ledger after an accepted call
-abbrev pub entered : Ledger → Call → Ledger
--- "Accepted open: m, n, empty list, whatever was there before."
-entered l (opens ws) = opened (numberAt ws 0) (numberAt ws 1) []
--- "Accepted add: the equation goes to the end, also when the list already has no solution."
-entered l (adds ws) = extended l ws
+abbrev pub effectOf : Ledger → Entry → Effect
+effectOf l (opens ws) = begins (numberAt (wordsIn ws) 0) (numberAt (wordsIn ws) 1)
+effectOf l (adds ws) = gains (equationFrom (unknownsOf l) (wordsIn ws))
 -- "Accepted strike: the last equation goes."
-entered l strikes = shortened l
-entered l (strikesFromTape w) = shortened l
--- "Answer, mark and refused calls: unchanged."
-entered l (answers buffer) = l
-entered l (answersFromTape w) = l
-entered l (marks ws) = l
-entered l (meaningless w) = l
+effectOf l strikes = loses (length (equationsIn l) - 1)
+effectOf l (strikesFromTape w) = loses (length (equationsIn l) - 1)
 
--- the ledger after a call, accepted or refused
+-- all but what stands at place j
+abbrev pub without : {A : Type 0} → ℕ → List A → List A
+without j xs = take j xs ++ drop (suc j) xs
+
+-- the ledger after it; an unopened one has no list
+abbrev pub changed : Ledger → Effect → Ledger
+-- "Accepted open: m, n, empty list, whatever was there before."
+changed l (begins m n) = opened m n []
+-- "Accepted add: the equation goes to the end, also when the list already has no solution."
+changed unopened (gains e) = unopened
+changed (opened m n es) (gains e) = opened m n (es ++ (e ∷ []))
+changed unopened (loses j) = unopened
+changed (opened m n es) (loses j) = opened m n (without j es)
+
+-- "Answer, mark and refused calls: unchanged."
 unfoldable pub enter : Ledger → Call → Ledger
-enter l c = unlessRefused (λ (k : ℕ). l) (refusalOf l c) (entered l c)
+enter l (enters e) = unlessRefused (λ (k : ℕ). l) (refusalOf l (enters e)) (changed l (effectOf l e))
+enter l (queries q) = l
 
 -- the ledger after more calls
 unfoldable pub ledgerFrom : Ledger → List Call → Ledger

@@ -6,12 +6,13 @@ use Prim.Native.Nat.{ℕ}
 use lib.Dec.{eqb, leb, ltb}
 use lib.ListN.{length}
 use Rattle.questions.specs.Questions.{Question, asks, firstNo, allowedModulus}
+use Rattle.questions.specs.Reply.{fits}
 use Rattle.equations.specs.Multipliers.{allBelow}
-use Rattle.words.specs.Words.{numberOf, numbersOf}
+use Rattle.words.specs.Words.{wordOf, wordsIn, numbersOf}
 use Rattle.ledger.specs.Ledger.{Ledger, isOpened, modulusOf, unknownsOf, equationsIn, mostEquations, mostUnknowns}
 use Rattle.ledger.specs.Shapes.{numberAt, isOpening, isEquation, isClaim, entriesOf}
 use Rattle.ledger.specs.Block.{answerWords}
-use Rattle.ledger.specs.Calls.{Call, opens, adds, strikes, answers, marks, strikesFromTape, answersFromTape, meaningless}
+use Rattle.ledger.specs.Calls.{Call, opens, adds, strikes, strikesFromTape, answers, answersFromTape, marks, meaningless, enters, queries}
 
 -- "n 1..16?"
 abbrev pub allowedUnknowns : ℕ → Bool
@@ -19,40 +20,40 @@ allowedUnknowns n = leb 1 n && leb n mostUnknowns
 
 -- "On tape, number 0? 1."
 abbrev pub plain : ℕ → Bool
-plain w = eqb (numberOf w) 0
+plain w = eqb (wordOf w .number) 0
 
 abbrev pub questions : Ledger → Call → List Question
 -- "Open: two words of kinds 1, 2? 1. m 2..65,535? 2. n 1..16? 3."
-questions l (opens ws) =
-    asks 1 (isOpening ws)
-    ∷ asks 2 (allowedModulus (numberAt ws 0))
-    ∷ asks 3 (allowedUnknowns (numberAt ws 1))
+questions l (enters (opens ws)) =
+    asks 1 (isOpening (wordsIn ws))
+    ∷ asks 2 (allowedModulus (numberAt (wordsIn ws) 0))
+    ∷ asks 3 (allowedUnknowns (numberAt (wordsIn ws) 1))
     ∷ []
 -- "Add: opened? 4. Shape right, length included? 1. Under 16 equations? 5. All numbers below m? 6."
-questions l (adds ws) =
+questions l (enters (adds ws)) =
     asks 4 (isOpened l)
-    ∷ asks 1 (isEquation (unknownsOf l) ws)
+    ∷ asks 1 (isEquation (unknownsOf l) (wordsIn ws))
     ∷ asks 5 (ltb (length (equationsIn l)) mostEquations)
-    ∷ asks 6 (allBelow (modulusOf l) (numbersOf ws))
+    ∷ asks 6 (allBelow (modulusOf l) (numbersOf (wordsIn ws)))
     ∷ []
 -- "Strike: opened? 4. On tape, number 0? 1. An equation there? 7."
-questions l strikes = asks 4 (isOpened l) ∷ asks 7 (ltb 0 (length (equationsIn l))) ∷ []
-questions l (strikesFromTape w) =
+questions l (enters strikes) = asks 4 (isOpened l) ∷ asks 7 (ltb 0 (length (equationsIn l))) ∷ []
+questions l (enters (strikesFromTape w)) =
     asks 4 (isOpened l)
     ∷ asks 1 (plain w)
     ∷ asks 7 (ltb 0 (length (equationsIn l)))
     ∷ []
 -- "Answer: opened? 4. On tape, number 0? 1. Buffer long enough for this block? 8; on tape it always is."
-questions l (answers buffer) = asks 4 (isOpened l) ∷ asks 8 (leb (length (answerWords l)) (length buffer)) ∷ []
-questions l (answersFromTape w) = asks 4 (isOpened l) ∷ asks 1 (plain w) ∷ []
+questions l (queries (answers buffer)) = asks 4 (isOpened l) ∷ asks 8 (fits (answerWords l) buffer) ∷ []
+questions l (queries (answersFromTape w)) = asks 4 (isOpened l) ∷ asks 1 (plain w) ∷ []
 -- "Mark: opened? 4. Shape right? 1. Entries below m? 6."
-questions l (marks ws) =
+questions l (queries (marks ws)) =
     asks 4 (isOpened l)
-    ∷ asks 1 (isClaim (unknownsOf l) ws)
-    ∷ asks 6 (allBelow (modulusOf l) (entriesOf ws))
+    ∷ asks 1 (isClaim (unknownsOf l) (wordsIn ws))
+    ∷ asks 6 (allBelow (modulusOf l) (entriesOf (wordsIn ws)))
     ∷ []
 -- "A first word of kind 0, 2, 4, 6, 7 or 10..15 is refused with 1, opened or not."
-questions l (meaningless w) = asks 1 false ∷ []
+questions l (queries (meaningless w)) = asks 1 false ∷ []
 
 -- the number of the question that turns the call away, or 0 where it is accepted
 unfoldable pub refusalOf : Ledger → Call → ℕ

@@ -1,42 +1,48 @@
 -- How an opening, an equation and a claim lie in words. Definitions only.
-use mathlib.Core.Bool.{Bool, _&&_}
+use mathlib.Core.Bool.{Bool, cond, _&&_}
 use mathlib.Core.List.{List, [], _∷_, _++_}
-use Prim.Native.Nat.{ℕ, _*_}
+use Prim.Native.Nat.{ℕ, _+_, _*_}
 use lib.Dec.{leb}
 use lib.ListN.{drop, getD, replicate}
 use Rattle.equations.specs.Equation.{Equation}
 use Rattle.equations.specs.Lines.{equationAt}
 use Rattle.equations.specs.Claim.{Claim}
 use Rattle.system.specs.Claims.{claimOf}
-use Rattle.words.specs.Words.{numberOf, numbersOf, haveKinds, modulusKind, unknownsKind, coefficientKind, rightKind, headKind, entryKind}
+use Rattle.words.specs.declared.unpacking.Word.{Word}
+use Rattle.words.specs.Words.{numbersOf, haveKinds, modulusKind, unknownsKind, coefficientKind, rightKind, headKind, entryKind}
 
 -- the number of the i-th word
-abbrev pub numberAt : List ℕ → ℕ → ℕ
-numberAt ws i = numberOf (getD ws i 0)
+abbrev pub numberAt : List Word → ℕ → ℕ
+numberAt words i = getD (numbersOf words) i 0
 
 -- "Open: kinds 1, 2."
-abbrev pub isOpening : List ℕ → Bool
-isOpening ws = haveKinds ws (modulusKind ∷ unknownsKind ∷ [])
+abbrev pub isOpening : List Word → Bool
+isOpening words = haveKinds words (modulusKind ∷ unknownsKind ∷ [])
 
 -- "Equation: n of kind 3, one of kind 4."
-abbrev pub isEquation : ℕ → List ℕ → Bool
-isEquation n ws = haveKinds ws (replicate n coefficientKind ++ (rightKind ∷ []))
+abbrev pub isEquation : ℕ → List Word → Bool
+isEquation n words = haveKinds words (replicate n coefficientKind ++ (rightKind ∷ []))
 
-abbrev pub equationFrom : ℕ → List ℕ → Equation
-equationFrom n ws = equationAt n (numbersOf ws)
+abbrev pub equationFrom : ℕ → List Word → Equation
+equationFrom n words = equationAt n (numbersOf words)
 
 -- 1 for the starting vector, and 1 for each of so many steps as there can be places
 abbrev pub largestHead : ℕ
 largestHead = 17
 
 -- "Claim: a head, then head number times n entries; 0 claims no solution .., 1..17 is a starting vector with its steps."
-abbrev pub isClaim : ℕ → List ℕ → Bool
-isClaim n ws = leb (numberAt ws 0) largestHead && haveKinds ws (headKind ∷ replicate (numberAt ws 0 * n) entryKind)
+abbrev pub isClaim : ℕ → List Word → Bool
+isClaim n words =
+    leb (numberAt words 0) largestHead && haveKinds words (headKind ∷ replicate (numberAt words 0 * n) entryKind)
+
+-- how many words a claim takes by its head's number: "1 + n times its number", and one "with a number above 17"
+abbrev pub claimLength : ℕ → ℕ → ℕ
+claimLength n head = cond (leb head largestHead) (1 + n * head) 1
 
 -- the numbers behind the head
-abbrev pub entriesOf : List ℕ → List ℕ
-entriesOf ws = numbersOf (drop 1 ws)
+abbrev pub entriesOf : List Word → List ℕ
+entriesOf words = drop 1 (numbersOf words)
 
 -- The claim that lies in well-formed words. There n is not 0, so that no entries at all are head 0.
-abbrev pub claimFrom : ℕ → List ℕ → Claim
-claimFrom n ws = claimOf n (entriesOf ws)
+abbrev pub claimFrom : ℕ → List Word → Claim
+claimFrom n words = claimOf n (entriesOf words)

@@ -1,7 +1,8 @@
 -- The questions of milebadger_solve, and what it says of a list of equations that all are answered with yes.
---   modulus-and-unknowns   the first two have the answer yes
---   posed                  all have, so that the arguments may be handed on
-use mathlib.Core.Path.{_≡_}
+--   number-largest   any number of 32 bits is a modulus that is not too large
+--   posed            all have, so that the arguments may be handed on
+use mathlib.Core.Path.{_≡_, sym, ap, _∙_}
+use mathlib.Core.Bool.{Bool, _&&_, and-true}
 use mathlib.Core.List.{List}
 use Prim.Native.Nat.{ℕ, _+_, _*_, _/_, _%_, _≤_}
 use native.Mathlib.Nat.{div-add-mod', mul-le-mul-right}
@@ -9,17 +10,15 @@ use native.Mathlib.Omega.{arith}
 use borrow.Author.Tests.{le-leb}
 use lib.Dec.{eqb→eq, leb, leb→le}
 use mir.Facts.{and-yes}
-use lib.ListN.{length, drop}
+use lib.ListN.{length}
 use Rattle.questions.specs.Questions.{firstNo}
 use Rattle.questions.proofs.Questions.{all-yes}
 use Rattle.equations.proofs.Vectors.{all-below}
 use Rattle.system.specs.Posed.{Posed}
 use Rattle.milebadger.specs.Calls.{largestNumber, solveQuestions}
 
-pub modulus-and-unknowns : (m n : ℕ) (xs : List ℕ) → 2 ≤ m → m ≤ largestNumber → 1 ≤ n → n ≤ 16
-    → firstNo (solveQuestions m n xs) ≡ firstNo (drop 2 (solveQuestions m n xs))
-modulus-and-unknowns m n xs two largest one sixteen =
-    simp (le-leb 2 m two, le-leb m largestNumber largest, le-leb 1 n one, le-leb n 16 sixteen)
+pub number-largest : (m : ℕ) → m ≤ largestNumber → leb 2 m ≡ (leb 2 m && leb m largestNumber)
+number-largest m small = sym (ap (λ (b : Bool). leb 2 m && b) (le-leb m largestNumber small) ∙ and-true (leb 2 m))
 
 lines-fit : (n size : ℕ) → size % (n + 1) ≡ 0 → size / (n + 1) ≤ 16 → size ≤ 16 * (n + 1)
 lines-fit n size whole few =

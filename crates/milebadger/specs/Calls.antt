@@ -1,4 +1,6 @@
--- What each call of the C face has to say. Definitions only.
+-- What each call of the C face has to say, and how it reaches a C caller: as a signed result, and as numbers in the memory that the caller
+-- lent. Definitions only.
+use mathlib.Core.Path.{_≡_}
 use Prim.Native.Nat.{ℕ, _+_, _/_, _%_}
 use mathlib.Core.Bool.{_&&_}
 use mathlib.Core.List.{List, [], _∷_}
@@ -7,29 +9,39 @@ use lib.IntN.{ℤ, pos, negℤ}
 use lib.ListN.{length}
 use Rattle.residue.specs.Chain.{chainOf}
 use Rattle.questions.specs.Questions.{Question, asks, firstNo, unlessRefused}
+use Rattle.questions.specs.Reply.{Reply, gives, refuses, resultOf, memoryAfter}
 use Rattle.congruence.specs.declared.Solved.{Solved}
 use Rattle.congruence.specs.declared.Solved.the-variants.{Refused, NoSolution, Solutions}
 use Rattle.congruence.specs.Congruence.{congruenceOf}
 use Rattle.equations.specs.Lines.{equationsOf}
 use Rattle.equations.specs.Multipliers.{allBelow}
 use Rattle.system.specs.Block.{blockOf}
+use Rattle.ledger.specs.Ledger.{mostEquations}
+use Rattle.ledger.specs.Questions.{allowedUnknowns}
 use Rattle.safe.specs.declared.Turned.{Turned}
-use Rattle.safe.specs.declared.Turned.the-variants.{Wrote, NoTurns}
-use Rattle.safe.specs.declared.Turned.the-variants.{Refused as Turned·Refused}
-use Rattle.tape.specs.Lines.{mostBytes, lines}
-use Rattle.milebadger.specs.Reply.{Reply, gives, refuses}
+use Rattle.safe.specs.declared.Turned.the-variants.{Wrote, NoTurns, Refused as Turned·Refused}
+use Rattle.tape.specs.Output.{mostBytes, lines}
+
+-- a refusal as a result: minus its number
+abbrev pub minus : ℕ → ℤ
+minus k = negℤ (pos k)
+
+-- a call replied: it returned r, and the lent memory went from `old` to `new`
+pub record Replied (reply : Reply ℤ) (old new : List ℕ) (r : ℤ) : Type 0 where
+  pub result : r ≡ resultOf minus reply old
+  pub memory : new ≡ memoryAfter reply old
 
 -- 1, and the divisor with the number of divisions
-unfoldable pub gcdReply : ℕ → ℕ → Reply
-gcdReply a b = gives 1 (chainOf a b .divisor ∷ chainOf a b .divisions ∷ [])
+unfoldable pub gcdReply : ℕ → ℕ → Reply ℤ
+gcdReply a b = gives (pos 1) (chainOf a b .divisor ∷ chainOf a b .divisions ∷ [])
 
 -- 1, and the least solution with the spacing; 0 for none; or the refusal
-unfoldable pub solvedReply : Solved → Reply
+unfoldable pub solvedReply : Solved → Reply ℤ
 solvedReply (Refused k) = refuses k
-solvedReply NoSolution = gives 0 []
-solvedReply (Solutions t spacing) = gives 1 (t ∷ spacing ∷ [])
+solvedReply NoSolution = gives (pos 0) []
+solvedReply (Solutions t spacing) = gives (pos 1) (t ∷ spacing ∷ [])
 
-abbrev pub congruenceReply : ℕ → ℕ → ℕ → Reply
+abbrev pub congruenceReply : ℕ → ℕ → ℕ → Reply ℤ
 congruenceReply a b m = solvedReply (congruenceOf a b m)
 
 -- the largest modulus of a system: any that 32 bits hold
@@ -41,18 +53,18 @@ largestNumber = 4294967295
 abbrev pub solveQuestions : ℕ → ℕ → List ℕ → List Question
 solveQuestions m n xs =
     asks 2 (leb 2 m && leb m largestNumber)
-    ∷ asks 3 (leb 1 n && leb n 16)
+    ∷ asks 3 (allowedUnknowns n)
     ∷ asks 1 (eqb (length xs % (n + 1)) 0)
-    ∷ asks 5 (leb (length xs / (n + 1)) 16)
+    ∷ asks 5 (leb (length xs / (n + 1)) mostEquations)
     ∷ asks 6 (allBelow m xs)
     ∷ []
 
 -- the numbers of a block, and how many it has
-abbrev pub blockReply : List ℕ → Reply
-blockReply block = gives (length block) block
+abbrev pub blockReply : List ℕ → Reply ℤ
+blockReply block = gives (pos (length block)) block
 
 -- the answer block of the equations in xs, or the refusal
-unfoldable pub solveReply : ℕ → ℕ → List ℕ → Reply
+unfoldable pub solveReply : ℕ → ℕ → List ℕ → Reply ℤ
 solveReply m n xs =
     unlessRefused refuses (firstNo (solveQuestions m n xs)) (blockReply (blockOf m n (equationsOf n xs)))
 
@@ -60,12 +72,12 @@ solveReply m n xs =
 unfoldable pub turnedResult : Turned → ℤ
 turnedResult (Wrote k) = pos k
 turnedResult NoTurns = pos 0
-turnedResult (Turned·Refused k) = negℤ (pos k)
+turnedResult (Turned·Refused k) = minus k
 
 -- "C call: 10 as for the tape." Its other question, 8, every reply asks.
 abbrev pub tapeQuestions : List ℕ → List Question
 tapeQuestions bytes = asks 10 (leb (length bytes) mostBytes) ∷ []
 
 -- "hands over tape bytes and a byte buffer and gets these lines: the result is the bytes written"
-unfoldable pub tapeReply : List ℕ → Reply
+unfoldable pub tapeReply : List ℕ → Reply ℤ
 tapeReply bytes = unlessRefused refuses (firstNo (tapeQuestions bytes)) (blockReply (lines bytes))

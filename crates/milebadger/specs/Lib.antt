@@ -1,3 +1,2 @@
--- Read in this order: Reply, Calls.
-pub mod Reply
+-- The C face.
 pub mod Calls

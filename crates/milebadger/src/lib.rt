@@ -1,14 +1,13 @@
 // The C face: every call that a C program can make, thin over the crates that do the work.
-mod asking;
+mod posing;
 mod replying;
 
 ghost use mathlib.Core.Path.{_≡_};
 ghost use Rattle.safe.specs.Calls.{turnedOf, bufferAfter};
-ghost use Rattle.milebadger.specs.Reply.{Replied};
-ghost use Rattle.milebadger.specs.Calls.{gcdReply, congruenceReply, solveReply, tapeReply, turnedResult};
-use asking::refusal;
+ghost use Rattle.milebadger.specs.Calls.{Replied, gcdReply, congruenceReply, solveReply, tapeReply, turnedResult};
 use congruence::Solved;
 use congruence::solve as solve_one;
+use posing::refusal;
 use replying::TOO_SHORT;
 use replying::give;
 use replying::give_block;
@@ -16,10 +15,16 @@ use replying::refuse;
 use residue::euclid::gcd;
 use safe::Turned;
 use safe::solve as solve_safe;
+use system::limits::ENTRIES;
 use system::solving::solve_into;
 use tape::running::LARGEST;
 use tape::running::count;
 use tape::running::write;
+
+// So many unknowns are few: an array of 20 numbers is enough for their vectors.
+const FEW: u32 = 4;
+
+const FEW_NUMBERS: usize = 20;
 
 // Euclid's chain: the divisor of a and b and the number of divisions made.
 #[no_mangle]
@@ -57,12 +62,12 @@ pub extern "C" fn milebadger_solve(m: u32, n: u32, lines: &[u32], out: &mut [u32
     if number != 0 {
         return refuse(number);
     }
-    if n <= 4 {
-        let mut few = [0u32; 20];
+    if n <= FEW {
+        let mut few = [0u32; FEW_NUMBERS];
         let block = solve_into(m, n as usize, lines, &mut few);
         return give_block(block.head, &few[..block.len], out);
     }
-    let mut numbers = [0u32; 272];
+    let mut numbers = [0u32; ENTRIES];
     let block = solve_into(m, n as usize, lines, &mut numbers);
     give_block(block.head, &numbers[..block.len], out)
 }

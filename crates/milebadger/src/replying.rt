@@ -2,9 +2,9 @@
 // Nothing else writes there.
 ghost use mathlib.Core.Path.{_≡_};
 ghost use mathlib.Core.List.{_∷_};
-ghost use lib.IntN.{pos, negℤ};
-ghost use Rattle.milebadger.specs.Reply.{gives, Replied};
-ghost use Rattle.milebadger.specs.Calls.{blockReply};
+ghost use lib.IntN.{pos};
+ghost use Rattle.questions.specs.Reply.{gives};
+ghost use Rattle.milebadger.specs.Calls.{minus, Replied, blockReply};
 use slices::copying::copy;
 
 // The result where the memory is too short for the numbers: "Buffer long enough for this block? 8".
@@ -12,7 +12,7 @@ pub(crate) const TOO_SHORT: i64 = -8;
 
 // The result, with its numbers written; or minus 8, with nothing written, where the memory is too short for them.
 pub(crate) fn give(result: u32, numbers: &[u32], out: &mut [u32]) -> i64
-    ensures { λ r. ⌜ Replied (gives result (now (numbers .entry))) (now (out .entry)) (now (out .exit)) r ⌝ }
+    ensures { λ r. ⌜ Replied (gives (pos result) (now (numbers .entry))) (now (out .entry)) (now (out .exit)) r ⌝ }
 {
     if out.len() < numbers.len() {
         return TOO_SHORT;
@@ -36,7 +36,7 @@ pub(crate) fn give_block(head: u32, numbers: &[u32], out: &mut [u32]) -> i64
 
 // Minus the number of a refusal.
 pub(crate) fn refuse(number: u32) -> i64
-    ensures { λ r. ⌜ r ≡ negℤ (pos number) ⌝ }
+    ensures { λ r. ⌜ r ≡ minus number ⌝ }
 {
     -(number as i64)
 }

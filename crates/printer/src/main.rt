@@ -7,13 +7,14 @@ use libc::STDERR_FILENO;
 use libc::STDIN_FILENO;
 use libc::STDOUT_FILENO;
 use sheet::Sheet;
+use tape::calling::CALL_ROOM;
 use tape::calling::next;
 use tape::running::LARGEST;
 use tape::running::left_over;
 
 // A tape that is too long shows in one byte more than it may have.
 fn main() {
-    let mut tape = [0u8; 65537];
+    let mut tape = [0u8; LARGEST + 1];
     let input = read_all(&mut tape);
     if input.failed {
         io::write_all(
@@ -66,7 +67,7 @@ fn read_all(tape: &mut [u8]) -> Input
 
 // A call at a time, then the line of the bytes left over. Whether all of it was written: no call is made after a failed write.
 fn print(tape: &[u8]) -> bool {
-    let mut out = [0u8; 4096];
+    let mut out = [0u8; CALL_ROOM];
     let mut sheet = Sheet::fresh();
     let mut rest = &tape[..];
     while rest.len() >= 4 {

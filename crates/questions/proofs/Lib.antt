@@ -1,2 +1,4 @@
 -- Laws of questions, for every crate that asks some.
 pub mod Questions
+pub mod Ladder
+pub mod Reply

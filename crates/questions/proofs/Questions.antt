@@ -1,6 +1,7 @@
 -- Questions that turn nothing away: where none gives its number, each has the answer yes. Questions in two lists. And a question
 -- that asks for a range.
 --   numbered          no question has the number 0, which stands for none; a test, so that a list shows it by computing
+--   numbered-append   nor has one of two lists
 --   AllYes, all-yes   each question has the answer yes; so it is where none turns a call away
 --   first-no-append   the questions of a second list are asked where none of the first turns a call away
 --   within-range      the test of a modulus or of a number of unknowns says that it lies in its range
@@ -18,6 +19,12 @@ use Rattle.questions.specs.Questions.{Question, firstNo, unlessRefused}
 abbrev pub numbered : List Question → Bool
 numbered [] = true
 numbered (q ∷ qs) = ltb 0 (q .number) && numbered qs
+
+pub numbered-append : (qs rest : List Question) → T (numbered qs) → T (numbered rest) → T (numbered (qs ++ rest))
+numbered-append [] rest numbers more = more
+numbered-append (q ∷ qs) rest numbers more =
+    let n = and-yes (ltb 0 (q .number)) (numbered qs) numbers in
+    yes-and (ltb 0 (q .number)) (numbered (qs ++ rest)) (n .0) (numbered-append qs rest (n .1) more)
 
 abbrev pub AllYes : List Question → Type 0
 AllYes [] = Unit {0}

@@ -9,7 +9,7 @@ use mathlib.Core.Path.{_≡_, refl, sym, ap, subst, _∙_}
 use Prim.Native.Nat.{ℕ, _+_, _*_, _%_, _≤_, _<_}
 use native.Mathlib.Nat.{mul-mod-left, mul-le-mul}
 use native.Mathlib.Omega.{arith}
-use lib.ListN.{length, take, length-append, length-take, length-map}
+use lib.ListN.{length, take, length-append, length-take}
 use lib.Seq.{take-at, take-take}
 use Rattle.equations.specs.Vectors.{Below}
 use Rattle.equations.specs.Equation.{Equation, Shaped}
@@ -21,26 +21,24 @@ use Rattle.equations.proofs.Vectors.{vector-length}
 use Rattle.system.specs.Posed.{Posed}
 use Rattle.system.specs.Block.{blockOf}
 use Rattle.system.proofs.Block.{block-none, block-some}
-use Rattle.words.specs.Words.{numberOf, numbersOf}
 use Rattle.safe.specs.Turns.{turnsOf}
-use Rattle.safe.specs.Model.Lines.{linesFrom, Lockable, Found}
+use Rattle.safe.specs.Model.Lines.{linesFrom}
+use Rattle.safe.specs.Model.Handed.{Lockable, Found}
 use Rattle.safe.proofs.Laid.{length-lines, lines-below}
 use Rattle.safe.proofs.Equations.{turns-start}
 
 pub lines-fit : (n : ℕ) → n ≤ 16 → n * (n + 1) ≤ 272
 lines-fit n h = mul-le-mul {n₁ = n} {m₁ = n + 1} {n₂ = 16} {m₂ = 17} h (omega arith)
 
-pub lines-posed : (m columns n : ℕ) (values : List ℕ) → Lockable m columns values → n ≡ length values
-    → Posed m n (linesFrom m columns n 0 (numbersOf values))
-lines-posed m columns n values safe e =
-    let lines = linesFrom m columns n 0 (numbersOf values) in
-    let count : length (numbersOf values) ≡ n = length-map values numberOf ∙ sym e in
-    let long : length lines ≡ n * (n + 1) =
-    length-lines m columns n 0 (numbersOf values) ∙ ap (λ (z : ℕ). z * (n + 1)) count in
+pub lines-posed : (m rows columns : ℕ) (values : List ℕ) → Lockable m rows columns values
+    → Posed m (length values) (linesFrom m columns (length values) 0 values)
+lines-posed m rows columns values safe =
+    let n = length values in
+    let long : length (linesFrom m columns n 0 values) ≡ n * (n + 1) = length-lines m columns n 0 values in
     record {
       modulus = safe .modulus;
-      hasUnknowns = omega (arith, safe .hasLocks);
-      unknowns = omega (arith, safe .few);
+      hasUnknowns = safe .hasLocks;
+      unknowns = safe .few;
       whole = ap (λ (z : ℕ). z % (n + 1)) long ∙ mul-mod-left n (n + 1);
       equations =
           omega (
@@ -48,7 +46,7 @@ lines-posed m columns n values safe e =
             long,
             mul-le-mul {n₁ = n} {m₁ = n + 1} {n₂ = 16} {m₂ = n + 1} (omega (arith, safe .few)) (omega arith),
           );
-      residues = lines-below m columns (safe .modulus) n 0 (numbersOf values);
+      residues = lines-below m columns (safe .modulus) n 0 values;
     }
 
 -- ---- what it shows

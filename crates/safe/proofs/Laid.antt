@@ -117,33 +117,30 @@ pub line-fits : (n i at : ℕ) → i < n → at ≡ i * (n + 1) → at + n + 1 �
 line-fits n i at lt e =
     omega (arith, mul-le-mul {n₁ = i + 1} {m₁ = n + 1} {n₂ = n} {m₂ = n + 1} (omega arith) (omega arith))
 
-module _ (m columns n : ℕ) (values old : List ℕ) (count : n ≡ length values) where
-  pub lines-on : (i at x : ℕ) (lines part : List ℕ) → i < n → at ≡ i * (n + 1) → x ≡ getD values i 0
-      → lines ≡ take at (linesFrom m columns n 0 values) ++ drop at old → part ≡ lineOf m columns n i x
-      → take at lines ++ (part ++ drop (at + n + 1 - at) (drop at lines))
-      ≡ take (at + n + 1) (linesFrom m columns n 0 values) ++ drop (at + n + 1) old
-  lines-on i at x lines part lt e value is it =
-      let all = linesFrom m columns n 0 values in
+module _ (m columns : ℕ) (values old : List ℕ) where
+  abbrev n : ℕ
+  n = length values
+
+  abbrev all : List ℕ
+  all = linesFrom m columns n 0 values
+
+  pub lines-on : (i at : ℕ) (lines part : List ℕ) → i < n → at ≡ i * (n + 1)
+      → lines ≡ take at all ++ drop at old → part ≡ lineOf m columns n i (getD values i 0)
+      → take at lines ++ (part ++ drop (at + n + 1 - at) (drop at lines)) ≡ take (at + n + 1) all ++ drop (at + n + 1) old
+  lines-on i at lines part lt e is it =
       let width : n + 1 ≡ at + n + 1 - at = omega arith in
       let line : part ≡ take (at + n + 1 - at) (drop at all) =
-      it ∙ ap (lineOf m columns n i) value ∙ sym (line-at m columns n 0 i i values (omega arith) (omega arith))
+      it ∙ sym (line-at m columns n 0 i i values (omega arith) lt)
       ∙ ap₂ (λ (k j : ℕ). take k (drop j all)) width (sym e) in
       ap (λ (z : List ℕ). take at z ++ (part ++ drop (at + n + 1 - at) (drop at z))) is
       ∙ part-more at (at + n + 1) all old part (omega arith)
-      (omega (
-        arith,
-        line-fits n i at lt e,
-        length-lines m columns n 0 values,
-        ap (λ (z : ℕ). z * (n + 1)) count,
-      ))
+      (omega (arith, line-fits n i at lt e, length-lines m columns n 0 values))
       line
 
-  pub lines-end : (i at : ℕ) → i ≡ n → at ≡ i * (n + 1) → length old ≡ n * (n + 1)
-      → take at (linesFrom m columns n 0 values) ++ drop at old ≡ linesFrom m columns n 0 values
+  pub lines-end : (i at : ℕ) → i ≡ n → at ≡ i * (n + 1) → length old ≡ n * (n + 1) → take at all ++ drop at old ≡ all
   lines-end i at e h long =
-      let all = linesFrom m columns n 0 values in
       let size : at ≡ n * (n + 1) = h ∙ ap (λ (z : ℕ). z * (n + 1)) e in
       ap₂ (λ (v w : List ℕ). v ++ w)
-      (take-all at all (omega (arith, length-lines m columns n 0 values, ap (λ (z : ℕ). z * (n + 1)) count)))
+      (take-all at all (omega (arith, length-lines m columns n 0 values)))
       (drop-of-length-le old {i = at} (omega arith))
       ∙ append-nil all

@@ -7,8 +7,13 @@ mod opening;
 ghost use mathlib.Core.Path.{_≡_};
 ghost use Rattle.safe.specs.Calls.{turnedOf, bufferAfter};
 use asking::refusal;
-use opening::first_turns;
-use words::writing::write;
+use opening::turns_into;
+
+// The most locks that a safe may have.
+pub(crate) const LOCKS: usize = 16;
+
+// So many words are read: one more than locks, which shows that there are too many.
+pub(crate) const VALUES_ROOM: usize = LOCKS + 1;
 
 // What the call gives back: how many words of turns it wrote, that no turns open the safe, or a refusal's number.
 pub enum Turned {
@@ -22,19 +27,11 @@ pub fn solve(m: u32, rows: u32, columns: u32, values: &[u32], out: &mut [u32]) -
     ensures { λ r. ⌜ r ≡ turnedOf m rows columns (now (values .entry)) (now (out .entry)) ⌝ }
     ensures { λ _. ⌜ now (out .exit) ≡ bufferAfter m rows columns (now (values .entry)) (now (out .entry)) ⌝ }
 {
-    let number = refusal(m, rows, columns, values);
+    let mut numbers = [0u32; VALUES_ROOM];
+    let number = refusal(m, rows, columns, values, &mut numbers);
     if number != 0 {
         return Turned::Refused(number);
     }
-    let answer = first_turns(m, columns as usize, values);
-    if answer.head == 0 {
-        return Turned::NoTurns;
-    }
     let n = values.len();
-    if out.len() < n {
-        return Turned::Refused(8);
-    }
-    let turns = answer.numbers;
-    write(6, &turns[..n], out);
-    Turned::Wrote(n)
+    turns_into(m, columns as usize, &numbers[..n], out)
 }

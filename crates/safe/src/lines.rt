@@ -3,11 +3,9 @@ ghost use mathlib.Core.Path.{_≡_};
 ghost use Prim.Native.Nat.{_+_, _*_, _%_, _<_};
 ghost use lib.ListN.{length};
 ghost use Rattle.residue.specs.Negative.{negative};
-ghost use Rattle.words.specs.Words.{numbersOf};
 ghost use Rattle.safe.specs.Model.Lines.{lineOf, linesFrom};
 ghost use Rattle.safe.specs.Model.Lines.{coefficient as coefficientOf};
 use residue::modular::negate;
-use words::reading::number;
 
 // A turn counts once for each lock in its row and column, its own lock included.
 fn coefficient(columns: usize, i: usize, p: usize) -> u32
@@ -40,18 +38,17 @@ fn line_into(line: &mut [u32], m: u32, columns: usize, n: usize, i: usize, x: u3
     line[n] = right_side(x, m);
 }
 
-// The lines of all locks, whose values are the words' numbers.
+// The lines of all locks.
 pub(crate) fn lines_into(lines: &mut [u32], m: u32, columns: usize, values: &[u32])
     requires { ⌜ (0 < m) × (0 < columns) × (length (now lines) ≡ length (now values) * (length (now values) + 1)) ⌝ }
-    ensures { λ _. ⌜ now (lines .exit)
-        ≡ linesFrom m columns (length (now (values .entry))) 0 (numbersOf (now (values .entry))) ⌝ }
+    ensures { λ _. ⌜ now (lines .exit) ≡ linesFrom m columns (length (now (values .entry))) 0 (now (values .entry)) ⌝ }
 {
     let n = values.len();
     let mut i: usize = 0;
     let mut at: usize = 0;
     while i < n {
         let end = at + n + 1;
-        line_into(&mut lines[at..end], m, columns, n, i, number(values[i]));
+        line_into(&mut lines[at..end], m, columns, n, i, values[i]);
         at = end;
         i += 1;
     }

@@ -1,33 +1,83 @@
--- An accepted answer is right: what demand 3 says of it.
---   answered-accepted, buffer-accepted    what an accepted answer gives back, and makes of the buffer
---   right-answer                          it is right for the ledger's equations
-use mathlib.Core.Path.{_≡_}
+-- What an answer gives back and leaves in a buffer, and that it is right: what demand 3 says of it.
+--   answered-unopened, answered-short, answered-wrote   each way out, result and buffer
+--   answered-asked, buffer-asked                        the same by the questions of the call
+--   shown-wrote, shown-refused                          each way out of an answer from tape
+--   shown-refusal                                       it says the refusal
+--   right-block                                         the ledger's block is right
+use mathlib.Core.Path.{_≡_, refl}
 use mathlib.Core.Logic.{Iff·trans, ⊎-elim}
-use mathlib.Core.List.{List}
-use mathlib.Core.Option.{none}
-use Prim.Native.Nat.{ℕ, _<_}
+use mathlib.Core.Bool.{true, false}
+use mathlib.Core.List.{List, [], _∷_}
+use Prim.Native.Nat.{ℕ, zero, suc, _<_, _≤_}
+use native.Mathlib.Omega.{arith}
+use borrow.Author.Tests.{le-leb, lt-leb, ne-eqb}
 use lib.ListN.{length}
 use Rattle.slices.specs.Over.{over}
+use Rattle.questions.specs.Questions.{asks, unlessRefused}
+use Rattle.questions.specs.Reply.{resultOf, memoryAfter}
+use Rattle.questions.proofs.Reply.{reply-result, reply-memory}
 use Rattle.equations.specs.Equation.{Equation, Shaped}
 use Rattle.equations.proofs.Answer.{start-found}
 use Rattle.equations.proofs.Promises.{no-start}
-use Rattle.ledger.specs.Ledger.{Ledger, opened}
+use Rattle.system.specs.declared.solving.Answer.{Answer}
+use Rattle.system.specs.Block.{answerOf}
+use Rattle.ledger.specs.Ledger.{Ledger, opened, isOpened, modulusOf, unknownsOf, equationsIn}
 use Rattle.ledger.specs.Block.{answerWords}
-use Rattle.ledger.specs.Calls.{Call}
+use Rattle.ledger.specs.Calls.{answers, answersFromTape, queries}
 use Rattle.ledger.specs.Questions.{refusalOf}
 use Rattle.ledger.proofs.Answer.{answer-some, answer-none, answer-head}
-use Rattle.sheet.specs.declared.answering.Answered.the-variants.{Wrote}
-use Rattle.sheet.specs.Calls.{Asks, answeredOf, bufferAfter}
-use Rattle.sheet.specs.Promises.{RightBlock, Shown}
+use Rattle.sheet.specs.declared.answering.Answered.the-variants.{Wrote, Refused}
+use Rattle.sheet.specs.declared.answering.Shown.{Shown}
+use Rattle.sheet.specs.Calls.{answeredOf, bufferAfter, noBlock, shownOf}
+use Rattle.sheet.specs.Promises.{RightBlock}
 
-module _ (l : Ledger) {c : Call} (a : Asks c) (accepted : refusalOf l c ≡ 0) where
-  pub answered-accepted : answeredOf l a ≡ Wrote (length (answerWords l))
-  unfolding answeredOf
-  answered-accepted = rw accepted
+module _ (l : Ledger) (old : List ℕ) where
+  pub answered-unopened : isOpened l ≡ false → (Refused 4 ≡ answeredOf l old) × (old ≡ bufferAfter l old)
+  unfolding answeredOf bufferAfter resultOf memoryAfter
+  answered-unopened h = (rw h, rw h)
 
-  pub buffer-accepted : (old : List ℕ) → bufferAfter l a old ≡ over (answerWords l) old
-  unfolding bufferAfter
-  buffer-accepted old = rw accepted
+  module _ (h : isOpened l ≡ true) where
+    pub answered-short : length old < length (answerWords l) → (Refused 8 ≡ answeredOf l old) × (old ≡ bufferAfter l old)
+    unfolding answeredOf bufferAfter resultOf memoryAfter
+    answered-short short =
+        let no = lt-leb (length (answerWords l)) (length old) short in (rw (h, no), rw (h, no))
+
+    pub answered-wrote : length (answerWords l) ≤ length old
+        → (Wrote (length (answerWords l)) ≡ answeredOf l old) × (over (answerWords l) old ≡ bufferAfter l old)
+    unfolding answeredOf bufferAfter resultOf memoryAfter
+    answered-wrote long =
+        let yes = le-leb (length (answerWords l)) (length old) long in (rw (h, yes), rw (h, yes))
+
+  pub answered-asked : answeredOf l old
+      ≡ unlessRefused Refused (refusalOf l (queries (answers old))) (Wrote (length (answerWords l)))
+  unfolding answeredOf refusalOf
+  answered-asked = reply-result (asks 4 (isOpened l) ∷ []) (Wrote (length (answerWords l))) (answerWords l) old Refused tt
+
+  pub buffer-asked : bufferAfter l old
+      ≡ unlessRefused (λ (k : ℕ). old) (refusalOf l (queries (answers old))) (over (answerWords l) old)
+  unfolding bufferAfter refusalOf
+  buffer-asked = reply-memory (asks 4 (isOpened l) ∷ []) (Wrote (length (answerWords l))) (answerWords l) old tt
+
+module _ (l : Ledger) (w : ℕ) {k : ℕ} (is : k ≡ refusalOf l (queries (answersFromTape w))) {b : Answer} where
+  pub shown-wrote : refusalOf l (queries (answersFromTape w)) ≡ 0 → b ≡ answerOf (modulusOf l) (unknownsOf l) (equationsIn l)
+      → _≡_ {A = Shown} (record { refused = k; block = b }) (shownOf l w)
+  unfolding shownOf
+  shown-wrote accepted made = rw (is, made, accepted)
+
+  pub shown-refused : (k ≡ 0 → ⊥) → b ≡ noBlock → _≡_ {A = Shown} (record { refused = k; block = b }) (shownOf l w)
+  unfolding shownOf
+  shown-refused some none = rw (none, ← is, ne-eqb k 0 some)
+
+pub shown-refusal : (l : Ledger) (w : ℕ) → shownOf l w .refused ≡ refusalOf l (queries (answersFromTape w))
+unfolding shownOf
+shown-refusal l w = either (refusalOf l (queries (answersFromTape w)))
+  where
+    either : (k : ℕ)
+        → unlessRefused {A = Shown} (λ (j : ℕ). record { refused = j; block = noBlock }) k
+        (record { refused = 0; block = answerOf (modulusOf l) (unknownsOf l) (equationsIn l) }) .refused
+        ≡ k
+    either zero = refl
+    either (suc k) = rw (ne-eqb (suc k) 0 (λ e. omega arith))
 
 module _ (m n : ℕ) (es : List Equation) (pos : 0 < m) (shaped : Shaped n es) where
   pub right-block : RightBlock m n es (answerWords (opened m n es))
@@ -40,7 +90,3 @@ module _ (m n : ℕ) (es : List Equation) (pos : 0 < m) (shaped : Shaped n es) w
             (λ found. (found .0, found .1, answer-some m n es (found .0) (found .1)))
             (start-found m n es);
       }
-
-  pub right-answer : (old : List ℕ) {c : Call} (a : Asks c) → refusalOf (opened m n es) c ≡ 0
-      → Shown (answerWords (opened m n es)) old (answeredOf (opened m n es) a) (bufferAfter (opened m n es) a old)
-  right-answer old a accepted = (answered-accepted (opened m n es) a accepted, buffer-accepted (opened m n es) a accepted old)

@@ -1,38 +1,41 @@
 -- What open, add and strike give back.
---   turn-refused                the sheet, and the number of the question that turned the call away
---   open-length, open-turn      an accepted opening has two words
---   add-unknowns, add-under, add-fits, add-room   there is room for an accepted equation
---   add-turn                    it is written behind the others
---   strike-some, strike-turn    an accepted strike has an equation to strike
---   tape-strike-some, tape-strike-turn   the same from tape
+--   turn-refused               the sheet, and the number of the question that turned the call away
+--   turn-accepted              the record that the call's effect makes, and the equations then held
+--   open-length, open-turn     an accepted opening has two words
+--   add-opened, add-under      there is room for an accepted equation,
+--   add-line, add-turn         and its line is seen in the numbers
+--   strike-opened, strike-place, strike-turn   an accepted strike has an equation to strike
 use mathlib.Core.Path.{_≡_, refl, sym, ap, ap₂, subst, _∙_}
-use mathlib.Core.List.{List, _++_}
-use Prim.Native.Nat.{ℕ, _+_, _-_, _<_, _≤_}
+use mathlib.Core.List.{List}
+use Prim.Native.Nat.{ℕ, _+_, _-_, _<_}
 use native.Mathlib.Omega.{arith}
-use lib.Dec.{T, ltb, ltb→lt}
-use lib.ListN.{length, take, drop, replicate, length-drop}
-use lib.Seq.{length-take-le}
+use lib.Dec.{T}
+use lib.ListN.{length, take, getD, replicate}
 use borrow.Author.Tests.{eq-eqb, ne-eqb}
 use Rattle.slices.specs.Over.{over}
-use Rattle.slices.proofs.Parts.{lent-is, put-back-is}
-use Rattle.questions.proofs.Questions.{AllYes}
+use Rattle.slices.proofs.Over.{over-front}
+use Rattle.equations.specs.Lines.{equationAt}
 use Rattle.equations.proofs.Truth.{true-of}
-use Rattle.words.specs.Words.{numbersOf}
-use Rattle.ledger.specs.Ledger.{Ledger, unopened, isOpened, unknownsOf, equationsIn, mostEquations}
+use Rattle.words.specs.Words.{wordsIn, numbersOf}
+use Rattle.words.proofs.Words.{numbers-count}
+use Rattle.words.proofs.Unpacked.{all-seen, number-seen}
+use Rattle.ledger.specs.Ledger.{Ledger, unopened, isOpened, unknownsOf, equationsIn, mostEquations, mostUnknowns}
 use Rattle.ledger.specs.Shapes.{numberAt, isOpening, isEquation}
-use Rattle.ledger.specs.Calls.{Call, opens, adds, strikes, strikesFromTape}
-use Rattle.ledger.specs.Questions.{questions, refusalOf}
-use Rattle.ledger.specs.History.{entered, shortened}
+use Rattle.ledger.specs.Calls.{Entry, opens, adds, enters}
+use Rattle.ledger.specs.Questions.{refusalOf}
+use Rattle.ledger.specs.History.{Effect, gains, loses, effectOf, changed}
 use Rattle.ledger.proofs.Shapes.{opening-length, equation-length}
 use Rattle.ledger.proofs.Questions.{opens-any, accepted-yes}
-use Rattle.ledger.proofs.Entered.{enter-accepted, extended-counts, shortened-counts}
+use Rattle.ledger.proofs.Effects.{Gains, Allows, accepted-allows, enter-accepted, gains-counts, loses-counts}
+use Rattle.asking.specs.declared.Seen.{Seen}
+use Rattle.asking.specs.Sees.{Sees, openingRoom, equationRoom}
 use Rattle.sheet.specs.declared.Sheet.{Sheet}
 use Rattle.sheet.specs.declared.Turn.{Turn}
 use Rattle.sheet.specs.declared.Entered.the-variants.{Holds, Refused}
-use Rattle.sheet.specs.Record.{room, filled, ledgerOf, recordAfter, withoutLast}
-use Rattle.sheet.specs.Calls.{Enters, opening, adding, striking, strikingFromTape, enteredOf, sheetAfter, turnOf}
-use Rattle.sheet.proofs.Reading.{Fit, readable-fit, opened-readable, ledger-opened, held-counts}
-use Rattle.sheet.proofs.Records.{more-fits}
+use Rattle.sheet.specs.Record.{room, ledgerOf, recordBy}
+use Rattle.sheet.specs.Calls.{enteredOf, sheetAfter, turnOf}
+use Rattle.sheet.proofs.Opened.{seen-unknowns, seen-held}
+use Rattle.sheet.proofs.Few.{unknowns-few}
 
 abbrev pub refusing : Sheet → ℕ → Turn
 refusing s k = record { sheet = s; entered = Refused k }
@@ -40,119 +43,109 @@ refusing s k = record { sheet = s; entered = Refused k }
 abbrev pub holding : Sheet → ℕ → Turn
 holding s k = record { sheet = s; entered = Holds k }
 
-module _ (s : Sheet) {c : Call} (e : Enters c) (number : ℕ) (is : number ≡ refusalOf (ledgerOf s) c) where
+module _ (s : Sheet) (e : Entry) (number : ℕ) (is : number ≡ refusalOf (ledgerOf s) (enters e)) where
   pub turn-refused : (number ≡ 0 → ⊥) → refusing s number ≡ turnOf s e
   unfolding turnOf sheetAfter enteredOf
   turn-refused some = rw (← is, ne-eqb number 0 some)
 
-  turn-accepted : number ≡ 0 → (k : ℕ) → length (equationsIn (entered (ledgerOf s) c)) ≡ k
-      → holding (recordAfter s c) k ≡ turnOf s e
+  turn-accepted : number ≡ 0 → (effect : Effect) → effectOf (ledgerOf s) e ≡ effect
+      → (k : ℕ) → length (equationsIn (changed (ledgerOf s) effect)) ≡ k → holding (recordBy s effect) k ≡ turnOf s e
   unfolding turnOf sheetAfter enteredOf
-  turn-accepted none k counts =
-      rw (enter-accepted (ledgerOf s) c (sym is ∙ none), counts, ← is, eq-eqb number 0 none)
-
-module _ (s : Sheet) (is : T (isOpened (ledgerOf s))) where
-  held-is : length (equationsIn (ledgerOf s)) ≡ s .held
-  held-is = held-counts s (opened-readable s is)
-
-  counts-struck : length (equationsIn (shortened (ledgerOf s))) ≡ s .held - 1
-  counts-struck = shortened-counts (ledgerOf s) ∙ ap (λ (k : ℕ). k - 1) held-is
-
-  some-held : T (ltb 0 (length (equationsIn (ledgerOf s)))) → 0 < s .held
-  some-held some = omega (arith, ltb→lt 0 (length (equationsIn (ledgerOf s))) some, held-is)
+  turn-accepted none effect same k counts =
+      rw (enter-accepted (ledgerOf s) e (sym is ∙ none), same, counts, ← is, eq-eqb number 0 none)
 
 -- ---- open
 
-module _ (ws : List ℕ) (number : ℕ) (is : number ≡ refusalOf unopened (opens ws)) where
-  pub open-is : (s : Sheet) → number ≡ refusalOf (ledgerOf s) (opens ws)
+module _ (ws : List ℕ) (number : ℕ) (is : number ≡ refusalOf unopened (enters (opens ws))) where
+  pub open-is : (s : Sheet) → number ≡ refusalOf (ledgerOf s) (enters (opens ws))
   open-is s = is ∙ sym (opens-any (ledgerOf s) ws)
 
-  module _ (none : number ≡ 0) where
-    pub open-length : length ws ≡ 2
-    open-length = opening-length ws (true-of (isOpening ws) (accepted-yes unopened (opens ws) (sym is ∙ none) .0))
+  module _ (none : number ≡ 0) (old : List ℕ) {new : List ℕ}
+      (seen : new ≡ over (take openingRoom (numbersOf (wordsIn ws))) old) where
+    abbrev all : List ℕ
+    all = numbersOf (wordsIn ws)
 
-    pub open-turn : (s : Sheet) (m n : ℕ) → m ≡ numberAt ws 0 → n ≡ numberAt ws 1
-        → holding (record { modulus = m; unknowns = n; held = 0; cells = replicate room 0 }) 0 ≡ turnOf s (opening ws)
-    open-turn s m n modulus unknowns =
-        ap₂ (λ (m n : ℕ). holding (record { modulus = m; unknowns = n; held = 0; cells = replicate room 0 }) 0) modulus unknowns
-        ∙ turn-accepted s (opening ws) number (open-is s) none 0 refl
+    two : length all ≡ 2
+    two =
+        numbers-count ws
+        ∙ opening-length ws (true-of (isOpening (wordsIn ws)) (accepted-yes unopened (enters (opens ws)) (sym is ∙ none) .0))
+
+    number-is : (i : ℕ) → i < 2 → getD new i 0 ≡ numberAt (wordsIn ws) i
+    number-is i at = number-seen openingRoom ws old seen i (omega arith) (omega (arith, two, numbers-count ws))
+
+    pub open-turn : (s : Sheet)
+        → holding (record { modulus = getD new 0 0; unknowns = getD new 1 0; held = 0; cells = replicate room 0 }) 0
+        ≡ turnOf s (opens ws)
+    open-turn s =
+        ap₂ (λ (m n : ℕ). holding (record { modulus = m; unknowns = n; held = 0; cells = replicate room 0 }) 0)
+        (number-is 0 (omega arith)) (number-is 1 (omega arith))
+        ∙ turn-accepted s (opens ws) number (open-is s) none _ refl 0 refl
 
 -- ---- add
 
--- the cells from place i on are lent, and come back with xs at their front; an array's length is a number k
-written-behind : (k i : ℕ) (cells xs : List ℕ) {part : List ℕ} → length cells ≡ k
-    → part ≡ over xs (take (k - i) (drop i cells))
-    → take i cells ++ (part ++ drop (k - i) (drop i cells)) ≡ take i cells ++ over xs (drop i cells)
-written-behind k i cells xs {part} size =
-    subst (λ (k : ℕ).
-    part ≡ over xs (take (k - i) (drop i cells))
-    → take i cells ++ (part ++ drop (k - i) (drop i cells)) ≡ take i cells ++ over xs (drop i cells)) size
-    (λ written. put-back-is i cells part ∙ ap (λ (z : List ℕ). take i cells ++ z) (written ∙ ap (over xs) (lent-is i cells)))
+module _ (s : Sheet) (ws : List ℕ) {seen : Seen} (sees : Sees (ledgerOf s) seen) (number : ℕ)
+    (is : number ≡ refusalOf (ledgerOf s) (enters (adds ws))) (none : number ≡ 0) where
+  allows : Gains (ledgerOf s) (equationAt (unknownsOf (ledgerOf s)) (numbersOf (wordsIn ws)))
+  allows = accepted-allows (ledgerOf s) (adds ws) (sym is ∙ none)
 
-module _ (s : Sheet) (ws : List ℕ) (number : ℕ) (is : number ≡ refusalOf (ledgerOf s) (adds ws)) (none : number ≡ 0) where
-  yes : AllYes (questions (ledgerOf s) (adds ws))
-  yes = accepted-yes (ledgerOf s) (adds ws) (sym is ∙ none)
+  pub add-opened : T (isOpened (ledgerOf s))
+  add-opened = allows .opened
 
-  fit : Fit s
-  fit = readable-fit s (opened-readable s (yes .0))
+  same-unknowns : seen .unknowns ≡ s .unknowns
+  same-unknowns = seen-unknowns s (true-of (isOpened (ledgerOf s)) add-opened) sees
+
+  held-is : length (equationsIn (ledgerOf s)) ≡ s .held
+  held-is = sym (sees .held) ∙ seen-held s (true-of (isOpened (ledgerOf s)) add-opened) sees
 
   pub add-under : s .held < mostEquations
-  add-under = omega (arith, ltb→lt (length (equationsIn (ledgerOf s))) mostEquations (yes .1 .1 .0), held-is s (yes .0))
+  add-under = omega (arith, allows .under, held-is)
 
-  long : length ws ≡ s .unknowns + 1
-  long =
-      equation-length (s .unknowns) ws
-      (ap (λ (l : Ledger). isEquation (unknownsOf l) ws) (sym (ledger-opened s (opened-readable s (yes .0))))
-      ∙ true-of (isEquation (unknownsOf (ledgerOf s)) ws) (yes .1 .0))
+  module _ (old : List ℕ) {new : List ℕ} (front : new ≡ over (take equationRoom (numbersOf (wordsIn ws))) old) where
+    long : length (numbersOf (wordsIn ws)) ≡ seen .unknowns + 1
+    long =
+        numbers-count ws
+        ∙ equation-length (unknownsOf (ledgerOf s)) ws
+        (true-of (isEquation (unknownsOf (ledgerOf s)) (wordsIn ws)) (accepted-yes (ledgerOf s) (enters (adds ws)) (sym is ∙ none) .1 .0))
+        ∙ ap (λ (k : ℕ). k + 1) (sym (sees .unknowns))
 
-  pub add-unknowns : s .unknowns ≤ 16
-  add-unknowns = fit .unknowns
+    pub add-line : take (seen .unknowns + 1) new ≡ numbersOf (wordsIn ws)
+    add-line =
+        let few = unknowns-few s in
+        over-front (seen .unknowns + 1) (numbersOf (wordsIn ws)) old
+        (all-seen equationRoom ws old front (omega (arith, long, numbers-count ws, sees .unknowns))) long
 
-  pub add-fits : filled s + length ws ≤ room
-  add-fits = omega (arith, more-fits s fit ws long add-under, fit .whole, long)
+    pub add-width : length (take (seen .unknowns + 1) new) ≡ s .unknowns + 1
+    add-width = ap length add-line ∙ long ∙ ap (λ (k : ℕ). k + 1) same-unknowns
 
-  pub add-room : length ws ≤ length (take (room - filled s) (drop (filled s) (s .cells)))
-  add-room =
-      omega (
-        arith,
-        length-take-le (room - filled s) (drop (filled s) (s .cells)) (omega (arith, length-drop (filled s) (s .cells), fit .whole)),
-        add-fits,
-      )
+    pub add-turn : holding (recordBy s (gains (equationAt (s .unknowns) (take (seen .unknowns + 1) new)))) (s .held + 1)
+        ≡ turnOf s (adds ws)
+    add-turn =
+        turn-accepted s (adds ws) number is none (gains (equationAt (s .unknowns) (take (seen .unknowns + 1) new)))
+        (ap₂ (λ (n : ℕ) (xs : List ℕ). gains (equationAt n xs)) (sym (sees .unknowns) ∙ same-unknowns) (sym add-line))
+        (s .held + 1) (gains-counts (ledgerOf s) _ add-opened ∙ ap (λ (k : ℕ). k + 1) held-is)
 
-  pub add-turn : {part : List ℕ} → part ≡ over (numbersOf ws) (take (room - filled s) (drop (filled s) (s .cells)))
-      → holding (record {
-        modulus = s .modulus;
-        unknowns = s .unknowns;
-        held = s .held + 1;
-        cells = take (filled s) (s .cells) ++ (part ++ drop (room - filled s) (drop (filled s) (s .cells)));
-      }) (s .held + 1) ≡ turnOf s (adding ws)
-  add-turn {part} written =
-      ap (λ (cells : List ℕ).
-      holding (record { modulus = s .modulus; unknowns = s .unknowns; held = s .held + 1; cells = cells }) (s .held + 1))
-      (written-behind room (filled s) (s .cells) (numbersOf ws) (fit .whole) written)
-      ∙ turn-accepted s (adding ws) number is none (s .held + 1)
-      (extended-counts (ledgerOf s) ws (true-of (isOpened (ledgerOf s)) (yes .0)) ∙ ap (λ (k : ℕ). k + 1) (held-is s (yes .0)))
+-- ---- strike: any call whose effect is that the last equation goes
 
--- ---- strike
+module _ (s : Sheet) (e : Entry) (last : effectOf (ledgerOf s) e ≡ loses (length (equationsIn (ledgerOf s)) - 1)) {seen : Seen}
+    (sees : Sees (ledgerOf s) seen) (number : ℕ) (is : number ≡ refusalOf (ledgerOf s) (enters e)) (none : number ≡ 0) where
+  struck : Allows (ledgerOf s) (loses (length (equationsIn (ledgerOf s)) - 1))
+  struck = subst (Allows (ledgerOf s)) last (accepted-allows (ledgerOf s) e (sym is ∙ none))
 
-module _ (s : Sheet) (number : ℕ) (is : number ≡ refusalOf (ledgerOf s) strikes) (none : number ≡ 0) where
-  pub strike-some : 0 < s .held
-  strike-some =
-      let yes = accepted-yes (ledgerOf s) strikes (sym is ∙ none) in
-      some-held s (yes .0) (yes .1 .0)
+  pub strike-opened : T (isOpened (ledgerOf s))
+  strike-opened = struck .0
 
-  pub strike-turn : holding (withoutLast s) (s .held - 1) ≡ turnOf s striking
+  held-same : seen .held ≡ s .held
+  held-same = seen-held s (true-of (isOpened (ledgerOf s)) strike-opened) sees
+
+  pub strike-some : 0 < seen .held
+  strike-some = omega (arith, struck .1, sees .held)
+
+  pub strike-place : seen .held - 1 < s .held
+  strike-place = omega (arith, strike-some, held-same)
+
+  pub strike-turn : holding (recordBy s (loses (seen .held - 1))) (s .held - 1) ≡ turnOf s e
   strike-turn =
-      turn-accepted s striking number is none (s .held - 1)
-      (counts-struck s (accepted-yes (ledgerOf s) strikes (sym is ∙ none) .0))
-
-module _ (s : Sheet) (w number : ℕ) (is : number ≡ refusalOf (ledgerOf s) (strikesFromTape w)) (none : number ≡ 0) where
-  pub tape-strike-some : 0 < s .held
-  tape-strike-some =
-      let yes = accepted-yes (ledgerOf s) (strikesFromTape w) (sym is ∙ none) in
-      some-held s (yes .0) (yes .1 .1 .0)
-
-  pub tape-strike-turn : holding (withoutLast s) (s .held - 1) ≡ turnOf s (strikingFromTape w)
-  tape-strike-turn =
-      turn-accepted s (strikingFromTape w) number is none (s .held - 1)
-      (counts-struck s (accepted-yes (ledgerOf s) (strikesFromTape w) (sym is ∙ none) .0))
+      turn-accepted s e number is none (loses (seen .held - 1))
+      (last ∙ ap (λ (k : ℕ). loses (k - 1)) (sym (sees .held))) (s .held - 1)
+      (loses-counts (ledgerOf s) (seen .held - 1) (omega (arith, strike-some, sees .held))
+      ∙ ap (λ (k : ℕ). k - 1) (sym (sees .held) ∙ held-same))

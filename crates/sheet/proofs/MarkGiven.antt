@@ -1,91 +1,91 @@
 -- What a mark says, and what may be asked about an accepted claim.
---   marked-refused             a refused claim
---   mark-reads, mark-fit       an accepted one: the sheet is opened, its record is such as calls make,
---   mark-some, mark-fits       and the claim has a head, and words for 17 vectors of 16 entries behind it at most
---   mark-copied                its entries, copied to another place, may be marked
---   mark-passed, mark-failed   and so they are
+--   marked-refused         a refused claim
+--   mark-opened            an accepted one: the sheet is opened,
+--   mark-end               the claim's end is seen in the numbers,
+--   mark-claimed           and its entries, which may be marked
+--   marked-as              and so they are
 use mathlib.Core.Path.{_≡_, sym, ap, subst, _∙_}
-use mathlib.Core.Bool.{Bool, true, false}
-use mathlib.Core.List.{List}
-use Prim.Native.Nat.{ℕ, _-_, _<_, _≤_}
+use mathlib.Core.Bool.{Bool, cond}
+use mathlib.Core.List.{List, [], _∷_, _++_}
+use Prim.Native.Nat.{ℕ, zero, suc, _+_, _-_, _*_, _<_, _≤_}
+use native.Mathlib.Numerals.{add-one}
+use native.Mathlib.Omega.{arith}
 use borrow.Author.Tests.{ne-eqb}
 use lib.Dec.{T}
-use lib.ListN.{length, take, length-map}
+use lib.ListN.{length, take, drop, getD}
+use lib.Seq.{take-at}
 use Rattle.slices.specs.Over.{over}
-use Rattle.slices.proofs.Parts.{lent, lent-is, lent-length}
-use Rattle.slices.proofs.Over.{over-front}
-use Rattle.questions.proofs.Questions.{AllYes}
-use Rattle.equations.specs.Lines.{equationsOf}
-use Rattle.equations.specs.Claim.{passes}
+use Rattle.equations.specs.declared.Mark.the-variants.{Pass, Fail}
+use Rattle.equations.specs.Equation.{Equation}
+use Rattle.equations.specs.Claim.{passes, markOf}
 use Rattle.system.specs.Claims.{Claimed, claimOf}
-use Rattle.words.specs.Words.{numberOf, numbersOf}
-use Rattle.ledger.specs.Ledger.{Ledger}
-use Rattle.ledger.specs.Shapes.{isClaim, entriesOf}
+use Rattle.words.specs.Words.{wordsIn, numbersOf}
+use Rattle.words.proofs.Words.{numbers-count}
+use Rattle.words.proofs.Unpacked.{all-seen, number-seen}
+use Rattle.ledger.specs.Ledger.{Ledger, isOpened, modulusOf, unknownsOf, equationsIn, mostUnknowns}
+use Rattle.ledger.specs.Shapes.{numberAt, isClaim, entriesOf}
 use Rattle.ledger.specs.Block.{longestBlock}
-use Rattle.ledger.specs.Marking.{claimPasses}
-use Rattle.ledger.specs.Calls.{marks}
-use Rattle.ledger.specs.Questions.{questions, refusalOf}
-use Rattle.ledger.proofs.Claims.{claim-some, claim-fits, claimed}
+use Rattle.ledger.specs.Marking.{claimMark}
+use Rattle.ledger.specs.Calls.{marks, queries}
+use Rattle.ledger.specs.Questions.{refusalOf}
+use Rattle.ledger.proofs.Shapes.{claim-length, claim-some, claim-fits, claimed}
 use Rattle.ledger.proofs.Questions.{accepted-yes}
-use Rattle.sheet.specs.declared.Sheet.{Sheet}
-use Rattle.sheet.specs.declared.marking.Marked.the-variants.{Pass, Fail, Refused}
-use Rattle.sheet.specs.Record.{linesIn, readable, ledgerOf}
+use Rattle.asking.specs.Sees.{claimRoom}
+use Rattle.sheet.specs.declared.marking.Marked.the-variants.{Gets, Refused}
 use Rattle.sheet.specs.Calls.{markedOf}
-use Rattle.sheet.proofs.Reading.{Fit, readable-fit, lying, opened-readable, ledger-opened}
-use Rattle.sheet.proofs.Turns.{answered}
 
-pub marked-refused : (l : Ledger) (ws : List ℕ) (k : ℕ) → refusalOf l (marks ws) ≡ k → (k ≡ 0 → ⊥) → Refused k ≡ markedOf l ws
+pub marked-refused : (l : Ledger) (ws : List ℕ) (k : ℕ) → refusalOf l (queries (marks ws)) ≡ k → (k ≡ 0 → ⊥) → Refused k ≡ markedOf l ws
 unfolding markedOf
 marked-refused l ws k refused h = rw (refused, ne-eqb k 0 h)
 
-entries-read : (ws old : List ℕ) {new : List ℕ} → new ≡ over (numbersOf (lent 1 ws)) old
-    → take (length ws - 1) new ≡ entriesOf ws
-entries-read ws old is =
-    over-front (length ws - 1) (numbersOf (lent 1 ws)) old is (length-map (lent 1 ws) numberOf ∙ lent-length 1 ws)
-    ∙ ap numbersOf (lent-is 1 ws)
+-- what lies behind the first number of xs, where xs stands at the front of a longer list
+behind-first : (xs rest : List ℕ) (k : ℕ) → length xs ≡ suc k → take k (drop 1 (xs ++ rest)) ≡ drop 1 xs
+behind-first [] rest k long = absurd (omega arith)
+behind-first (x ∷ xs) rest k long = take-at xs rest k (omega arith)
 
-module _ (s : Sheet) (ws : List ℕ) (accepted : refusalOf (ledgerOf s) (marks ws) ≡ 0) where
-  pub mark-reads : readable s ≡ true
-  mark-reads = opened-readable s (accepted-yes (ledgerOf s) (marks ws) accepted .0)
+module _ (l : Ledger) (ws : List ℕ) (accepted : refusalOf l (queries (marks ws)) ≡ 0) where
+  pub mark-opened : T (isOpened l)
+  mark-opened = accepted-yes l (queries (marks ws)) accepted .0
 
-  answers-yes : AllYes (questions (lying s) (marks ws))
-  answers-yes = answered s (marks ws) mark-reads accepted
+  shape : T (isClaim (unknownsOf l) (wordsIn ws))
+  shape = accepted-yes l (queries (marks ws)) accepted .1 .0
 
-  mark-shape : T (isClaim (s .unknowns) ws)
-  mark-shape = answers-yes .1 .0
+  abbrev all : List ℕ
+  all = numbersOf (wordsIn ws)
 
-  pub mark-fit : Fit s
-  mark-fit = readable-fit s mark-reads
+  module _ (few : unknownsOf l ≤ mostUnknowns) (old : List ℕ) {new : List ℕ} (seen : new ≡ over (take claimRoom all) old) where
+    long : length all ≡ suc (numberAt (wordsIn ws) 0 * unknownsOf l)
+    long = numbers-count ws ∙ claim-length (unknownsOf l) ws shape
 
-  pub mark-some : 0 < length ws
-  mark-some = claim-some (s .unknowns) ws mark-shape
+    front : new ≡ over all old
+    front = all-seen claimRoom ws old seen (omega (arith, claim-fits (unknownsOf l) ws shape few))
 
-  pub mark-fits : length ws ≤ longestBlock
-  mark-fits = claim-fits (s .unknowns) ws mark-shape (mark-fit .unknowns)
+    head-is : getD new 0 0 ≡ numberAt (wordsIn ws) 0
+    head-is = number-seen claimRoom ws old seen 0 (omega arith) (claim-some (unknownsOf l) ws shape)
 
-  mark-claimed : Claimed (s .modulus) (s .unknowns) (entriesOf ws)
-  mark-claimed = claimed (s .unknowns) ws mark-shape (s .modulus) (answers-yes .1 .1 .0)
+    end-is : getD new 0 0 * unknownsOf l + 1 ≡ length all
+    end-is = ap (λ (k : ℕ). k * unknownsOf l + 1) head-is ∙ add-one _ ∙ sym long
 
-  module _ (old new : List ℕ) (copied : new ≡ over (numbersOf (lent 1 ws)) old) where
-    pub mark-copied : Claimed (s .modulus) (s .unknowns) (take (length ws - 1) new)
-    mark-copied = subst (Claimed (s .modulus) (s .unknowns)) (sym (entries-read ws old copied)) mark-claimed
+    -- for who knows the modulus as m, the unknowns as n and the head as h
+    module _ (m n h : ℕ) (same-m : m ≡ modulusOf l) (same-n : n ≡ unknownsOf l) (same-h : h ≡ getD new 0 0) where
+      pub mark-end : h * n + 1 ≤ longestBlock
+      mark-end = rw (same-h, same-n) (omega (arith, end-is, numbers-count ws, claim-fits (unknownsOf l) ws shape few))
 
-    module _ (result : Bool)
-        (is : result ≡ passes (s .modulus) (s .unknowns) (equationsOf (s .unknowns) (linesIn s))
-        (claimOf (s .unknowns) (take (length ws - 1) new))) where
-      decided : claimPasses (ledgerOf s) ws ≡ result
-      decided =
-          ap (λ (l : Ledger). claimPasses l ws) (ledger-opened s mark-reads)
-          ∙ ap
-          (λ (xs : List ℕ).
-          passes (s .modulus) (s .unknowns) (equationsOf (s .unknowns) (linesIn s)) (claimOf (s .unknowns) xs))
-          (sym (entries-read ws old copied))
-          ∙ sym is
+      entries-are : take (h * n + 1 - 1) (drop 1 new) ≡ entriesOf (wordsIn ws)
+      entries-are =
+          rw (same-h, same-n)
+          (ap (λ (xs : List ℕ). take (getD new 0 0 * unknownsOf l + 1 - 1) (drop 1 xs)) front
+          ∙ behind-first all (drop (length all) old) (getD new 0 0 * unknownsOf l + 1 - 1) (omega (arith, end-is)))
 
-      pub mark-passed : result ≡ true → Pass ≡ markedOf (ledgerOf s) ws
-      unfolding markedOf
-      mark-passed h = rw (accepted, decided, h)
+      pub mark-claimed : Claimed m n (take (h * n + 1 - 1) (drop 1 new))
+      mark-claimed =
+          rw (entries-are, same-m, same-n)
+          (claimed (unknownsOf l) ws shape (modulusOf l) (accepted-yes l (queries (marks ws)) accepted .1 .1 .0))
 
-      pub mark-failed : result ≡ false → Fail ≡ markedOf (ledgerOf s) ws
-      unfolding markedOf
-      mark-failed h = rw (accepted, decided, h)
+      pub marked-as : (es : List Equation) → es ≡ equationsIn l → (result : Bool)
+          → result ≡ passes m n es (claimOf n (take (h * n + 1 - 1) (drop 1 new))) → Gets (cond result Pass Fail) ≡ markedOf l ws
+      unfolding markedOf markOf
+      marked-as es same-es result is =
+          let decided : result ≡ passes (modulusOf l) (unknownsOf l) (equationsIn l) (claimOf (unknownsOf l) (entriesOf (wordsIn ws))) =
+          is ∙ rw (entries-are, same-es, same-m, same-n) in
+          rw (accepted, decided)

@@ -1,74 +1,88 @@
 -- A mark is right: what demand 3 says of it.
---   marked-accepted    an accepted claim is passed or failed
+--   marked-accepted    an accepted claim gets its mark
 --   well-accepted      a well-formed claim is accepted
 --   well-described     and passes exactly when it describes the solutions of the ledger's equations
+--   mark-tells         so what is a function of its mark tells
 --   right-mark         so it is marked
 --   own-mark           an answer's own words, where there is a solution, are passed
-use mathlib.Core.Path.{_≡_, refl, ap, _∙_}
+use mathlib.Core.Path.{_≡_, refl, sym, ap, _∙_}
 use mathlib.Core.Logic.{_↔_}
-use mathlib.Core.Bool.{Bool, cond}
+use mathlib.Core.Bool.{Bool, true, false, cond}
 use mathlib.Core.List.{List}
 use mathlib.Core.Option.{some}
 use Prim.Native.Nat.{ℕ, _<_, _≤_}
 use native.Mathlib.Omega.{arith}
 use lib.Dec.{T}
+use Rattle.equations.specs.declared.Mark.{Mark}
+use Rattle.equations.specs.declared.Mark.the-variants.{Pass, Fail}
 use Rattle.equations.specs.Equation.{Equation}
 use Rattle.equations.specs.Answer.{startOf}
-use Rattle.equations.specs.Claim.{passes}
+use Rattle.equations.specs.Claim.{passes, markOf}
 use Rattle.equations.specs.Multipliers.{allBelow}
 use Rattle.equations.proofs.Truth.{true-of, cond-tells}
 use Rattle.equations.proofs.Claim.{passes-described}
 use Rattle.equations.proofs.Promises.{own-answer}
 use Rattle.system.proofs.Claims.{claim-described}
-use Rattle.words.specs.Words.{numbersOfAKind}
+use Rattle.words.specs.Words.{numbersOfAKind, wordsIn}
 use Rattle.ledger.specs.Ledger.{Ledger, opened}
 use Rattle.ledger.specs.Shapes.{isClaim, entriesOf, claimFrom}
 use Rattle.ledger.specs.Block.{answerWords}
-use Rattle.ledger.specs.Marking.{claimPasses}
-use Rattle.ledger.specs.Calls.{marks}
+use Rattle.ledger.specs.Marking.{claimMark}
+use Rattle.ledger.specs.Calls.{marks, queries}
 use Rattle.ledger.specs.Questions.{refusalOf}
-use Rattle.ledger.proofs.Claims.{claimed}
+use Rattle.ledger.proofs.Shapes.{claimed}
 use Rattle.ledger.proofs.Refusals.{marks-accepted}
 use Rattle.ledger.proofs.Own.{own-shape, own-entries, own-claim}
-use Rattle.sheet.specs.declared.marking.Marked.the-variants.{Pass, Fail}
+use Rattle.sheet.specs.declared.marking.Marked.the-variants.{Gets}
 use Rattle.sheet.specs.Calls.{markedOf}
 use Rattle.sheet.specs.Promises.{WellFormed, DescribesSolutions, RightMark}
 
-pub marked-accepted : (l : Ledger) (ws : List ℕ) → refusalOf l (marks ws) ≡ 0
-    → markedOf l ws ≡ cond (claimPasses l ws) Pass Fail
+pub marked-accepted : (l : Ledger) (ws : List ℕ) → refusalOf l (queries (marks ws)) ≡ 0 → markedOf l ws ≡ Gets (claimMark l ws)
 unfolding markedOf
 marked-accepted l ws accepted = rw accepted
 
-pass-or-fail : Pass ≡ Fail → ⊥
+pass-or-fail : Gets Pass ≡ Gets Fail → ⊥
 pass-or-fail same = let z : _≡_ {A = ℕ} 0 1 = cc in omega arith
 
+-- a function of a mark
+by-test : {A : Type 0} (f : Mark → A) (b : Bool) → f (cond b Pass Fail) ≡ cond b (f Pass) (f Fail)
+by-test f true = refl
+by-test f false = refl
+
 module _ (m n : ℕ) (es : List Equation) where
-  pub well-accepted : (ws : List ℕ) → WellFormed m n ws → refusalOf (opened m n es) (marks ws) ≡ 0
+  pub well-accepted : (ws : List ℕ) → WellFormed m n ws → refusalOf (opened m n es) (queries (marks ws)) ≡ 0
   well-accepted ws well =
-      marks-accepted (opened m n es) refl ws (true-of (isClaim n ws) (well .0))
-      (true-of (allBelow m (entriesOf ws)) (well .1))
+      marks-accepted (opened m n es) refl ws (true-of (isClaim n (wordsIn ws)) (well .0))
+      (true-of (allBelow m (entriesOf (wordsIn ws))) (well .1))
 
   pub well-described : 0 < m → (ws : List ℕ) → WellFormed m n ws
-      → T (passes m n es (claimFrom n ws)) ↔ DescribesSolutions m n es (claimFrom n ws)
+      → T (passes m n es (claimFrom n (wordsIn ws))) ↔ DescribesSolutions m n es (claimFrom n (wordsIn ws))
   well-described pos ws well =
-      passes-described m n es (claimFrom n ws)
-      (claim-described m n (entriesOf ws) pos (claimed n ws (well .0) m (well .1)))
+      passes-described m n es (claimFrom n (wordsIn ws))
+      (claim-described m n (entriesOf (wordsIn ws)) pos (claimed n ws (well .0) m (well .1)))
 
-  marked-well : (ws : List ℕ) → WellFormed m n ws
-      → markedOf (opened m n es) ws ≡ cond (passes m n es (claimFrom n ws)) Pass Fail
-  marked-well ws well = marked-accepted (opened m n es) ws (well-accepted ws well)
+  -- whatever tells the two marks apart tells whether the claim is right
+  pub mark-tells : 0 < m → (ws : List ℕ) → WellFormed m n ws → {A : Type 0} (f : Mark → A) → (f Pass ≡ f Fail → ⊥)
+      → ((f (claimMark (opened m n es) ws) ≡ f Pass) ↔ DescribesSolutions m n es (claimFrom n (wordsIn ws)))
+      × ((f (claimMark (opened m n es) ws) ≡ f Fail) ↔ (DescribesSolutions m n es (claimFrom n (wordsIn ws)) → ⊥))
+  unfolding markOf
+  mark-tells pos ws well f apart =
+      rw (by-test f (passes m n es (claimFrom n (wordsIn ws))))
+      (cond-tells (f Pass) (f Fail) apart (passes m n es (claimFrom n (wordsIn ws))) (well-described pos ws well))
 
   pub right-mark : 0 < m → (ws : List ℕ) → WellFormed m n ws
-      → RightMark m n es (claimFrom n ws) (markedOf (opened m n es) ws)
+      → RightMark m n es (claimFrom n (wordsIn ws)) (markedOf (opened m n es) ws)
   right-mark pos ws well =
-      let both = cond-tells Pass Fail pass-or-fail (passes m n es (claimFrom n ws)) (well-described pos ws well) in
-      rw (marked-well ws well) (record { passed = both .0; failed = both .1 })
+      let both = mark-tells pos ws well Gets pass-or-fail in
+      rw (marked-accepted (opened m n es) ws (well-accepted ws well)) (record { passed = both .0; failed = both .1 })
 
   pub own-mark : 0 < m → m ≤ numbersOfAKind → 0 < n → n ≤ 16 → (c : List ℕ) → startOf m n es ≡ some c
-      → markedOf (opened m n es) (answerWords (opened m n es)) ≡ Pass
+      → markedOf (opened m n es) (answerWords (opened m n es)) ≡ Gets Pass
+  unfolding markOf
   own-mark pos largest one unknowns c start =
-      marked-well (answerWords (opened m n es))
-      (own-shape m n es largest c start unknowns, own-entries m n es largest c start)
-      ∙ ap (λ (b : Bool). cond b Pass Fail)
+      marked-accepted (opened m n es) (answerWords (opened m n es))
+      (well-accepted (answerWords (opened m n es))
+      (own-shape m n es largest c start unknowns, own-entries m n es largest c start))
+      ∙ ap (λ (b : Bool). Gets (cond b Pass Fail))
       (ap (passes m n es) (own-claim m n es largest c start one)
       ∙ true-of _ (own-answer m n es pos .0 c start))

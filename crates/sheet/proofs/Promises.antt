@@ -4,36 +4,40 @@
 --   own-block-passes    an answer's own block passes
 use mathlib.Core.Path.{_≡_, refl, ap, ap₂, subst, sym, _∙_}
 use mathlib.Core.Logic.{⊎-elim}
-use mathlib.Core.List.{List}
+use mathlib.Core.List.{List, _∷_}
 use Prim.Native.Nat.{ℕ, _<_, _≤_}
 use native.Mathlib.Omega.{arith}
-use borrow.Author.Tests.{ne-eqb, lt-leb}
+use borrow.Author.Tests.{ne-eqb}
 use lib.ListN.{length, take}
 use lib.Dec.{eqb→eq}
+use Rattle.slices.specs.Over.{over}
 use Rattle.slices.proofs.Over.{over-front}
+use Rattle.questions.specs.Questions.{unlessRefused}
+use Rattle.equations.specs.declared.Mark.the-variants.{Pass}
 use Rattle.equations.specs.Equation.{Equation}
 use Rattle.equations.proofs.Answer.{start-found}
 use Rattle.equations.proofs.Promises.{no-start}
-use Rattle.words.specs.Words.{numberOf}
+use Rattle.words.specs.Words.{wordOf, wordsIn}
 use Rattle.ledger.specs.Ledger.{Ledger, opened}
+use Rattle.ledger.specs.Allowed.{Allowed}
 use Rattle.ledger.specs.Shapes.{claimFrom}
 use Rattle.ledger.specs.Block.{answerWords}
-use Rattle.ledger.specs.Calls.{Call, answers}
-use Rattle.ledger.specs.Questions.{refusalOf}
+use Rattle.ledger.specs.Calls.{Call, answers, answersFromTape, queries}
+use Rattle.ledger.specs.Questions.{plain, refusalOf}
 use Rattle.ledger.specs.History.{ledger}
 use Rattle.ledger.proofs.Answer.{answer-fits}
-use Rattle.ledger.proofs.Refusals.{answers-fit, answers-word-plain}
+use Rattle.ledger.proofs.Refusals.{answers-word-plain}
 use Rattle.ledger.proofs.History.{Opened, opening-opens}
-use Rattle.ledger.specs.Allowed.{Allowed}
 use Rattle.ledger.proofs.Sound.{ledger-sound}
-use Rattle.sheet.specs.declared.marking.Marked.the-variants.{Pass}
-use Rattle.sheet.specs.declared.answering.Answered.the-variants.{Refused as Answered·Refused}
+use Rattle.sheet.specs.declared.answering.Answered.the-variants.{Wrote, Refused}
+use Rattle.sheet.specs.declared.marking.Marked.the-variants.{Gets}
 use Rattle.sheet.specs.Record.{ledgerOf}
-use Rattle.sheet.specs.Calls.{Asks, asking, askingFromTape, turnOf, enteredOf, answeredOf, bufferAfter, markedOf}
+use Rattle.sheet.specs.Calls.{turnOf, enteredOf, answeredOf, bufferAfter, shownOf, markedOf}
 use Rattle.sheet.specs.History.{after}
-use Rattle.sheet.specs.Promises.{NothingSolves, Shown, RightMark, Promised, Demand3, DecidedAlways, OwnBlockPasses}
+use Rattle.sheet.specs.Promises.{NothingSolves, Shows, RightMark, Promised, Demand3, DecidedAlways, OwnBlockPasses}
 use Rattle.sheet.proofs.History.{after-reads, left-refused}
-use Rattle.sheet.proofs.Answers.{buffer-accepted, right-answer, right-block}
+use Rattle.sheet.proofs.Solved.{solved-words, shown-block}
+use Rattle.sheet.proofs.Answers.{answered-short, answered-wrote, answered-asked, buffer-asked, shown-refusal, right-block}
 use Rattle.sheet.proofs.Marks.{right-mark, own-mark}
 
 -- ---- demand 3
@@ -48,21 +52,19 @@ module _ (calls : List Call) (m n : ℕ) (es : List Equation) (holds : ledger ca
   positive : 0 < m
   positive = omega (arith, allowed .modulus)
 
-  fits : (old : List ℕ) → length (answerWords (ledger calls)) ≤ length old → refusalOf (opened m n es) (answers old) ≡ 0
-  fits old h =
-      answers-fit (opened m n es) refl old
-      (subst (λ (l : Ledger). length (answerWords l) ≤ length old) holds h)
+  abbrev block : List ℕ
+  block = answerWords (opened m n es)
 
-  right : {c : Call} (a : Asks c) (old : List ℕ) → refusalOf (opened m n es) c ≡ 0
-      → Shown (answerWords (opened m n es)) old (answeredOf (ledgerOf (after calls)) a) (bufferAfter (ledgerOf (after calls)) a old)
-  right a old accepted =
-      subst (λ (l : Ledger). Shown (answerWords (opened m n es)) old (answeredOf l a) (bufferAfter l a old)) (sym reads)
-      (right-answer m n es positive (allowed .shaped) old a accepted)
+  wrote : (old : List ℕ) → length block ≤ length old
+      → (answeredOf (opened m n es) old ≡ Wrote (length block)) × (bufferAfter (opened m n es) old ≡ over block old)
+  wrote old long = let w = answered-wrote (opened m n es) old refl long in (sym (w .0), sym (w .1))
 
-  short-refused : (old : List ℕ) → length old < length (answerWords (opened m n es))
-      → answeredOf (opened m n es) (asking old) ≡ Answered·Refused 8
-  unfolding answeredOf refusalOf
-  short-refused old h = rw (lt-leb (length (answerWords (opened m n es))) (length old) h)
+  shows : (w : ℕ) → wordOf w .number ≡ 0 → Shows block (shownOf (opened m n es) w)
+  shows w none =
+      let accepted = answers-word-plain (opened m n es) refl w none in (
+        shown-refusal (opened m n es) w ∙ accepted,
+        solved-words (opened m n es) (shownOf (opened m n es) w .block) (shown-block (opened m n es) w accepted) tt,
+      )
 
   promised : Promised calls
   promised =
@@ -72,30 +74,30 @@ module _ (calls : List Call) (m n : ℕ) (es : List Equation) (holds : ledger ca
         es = es;
         holds = holds;
         allowed = allowed;
-        block = answerWords (opened m n es);
+        block = block;
         right = right-block m n es positive (allowed .shaped);
         fits = answer-fits m n es positive (allowed .shaped) (allowed .equations) (allowed .unknowns);
-        answer = λ old h. right (asking old) old (fits old (subst (λ (l : Ledger). length (answerWords l) ≤ length old) (sym holds) h));
-        short = λ old h. ap (λ (l : Ledger). answeredOf l (asking old)) reads ∙ short-refused old h;
-        answerFromTape = λ w old plain room.
-            right (askingFromTape w) old
-            (answers-word-plain (opened m n es) refl w (eqb→eq (numberOf w) 0 plain));
+        answer = λ old long.
+            subst (λ (l : Ledger). (answeredOf l old ≡ Wrote (length block)) × (bufferAfter l old ≡ over block old)) (sym reads)
+            (wrote old long);
+        short = λ old h.
+            ap (λ (l : Ledger). answeredOf l old) reads ∙ sym (answered-short (opened m n es) old refl h .0);
+        answerFromTape = λ w none.
+            subst (λ (l : Ledger). Shows block (shownOf l w)) (sym reads) (shows w (eqb→eq (wordOf w .number) 0 none));
         mark = λ ws well.
-            subst (λ (l : Ledger). RightMark m n es (claimFrom n ws) (markedOf l ws)) (sym reads)
+            subst (λ (l : Ledger). RightMark m n es (claimFrom n (wordsIn ws)) (markedOf l ws)) (sym reads)
             (right-mark m n es positive ws well);
       }
 
   -- the block lies at the front of the buffer
   block-front : (old : List ℕ) → length (answerWords (ledger calls)) ≤ length old
-      → take (length (answerWords (ledger calls))) (bufferAfter (ledgerOf (after calls)) (asking old) old)
-      ≡ answerWords (opened m n es)
-  block-front old h =
-      over-front (length (answerWords (ledger calls))) (answerWords (opened m n es)) old
-      (ap (λ (l : Ledger). bufferAfter l (asking old) old) reads
-      ∙ buffer-accepted (opened m n es) (asking old) (fits old h) old)
-      (ap (λ (l : Ledger). length (answerWords l)) (sym holds))
+      → take (length (answerWords (ledger calls))) (bufferAfter (ledgerOf (after calls)) old) ≡ block
+  block-front old long =
+      let size : length (answerWords (ledger calls)) ≡ length block = ap (λ (l : Ledger). length (answerWords l)) holds in
+      over-front (length (answerWords (ledger calls))) block old
+      (ap (λ (l : Ledger). bufferAfter l old) reads ∙ wrote old (omega (arith, size, long)) .1) (sym size)
 
-  own-passes : (NothingSolves m n es → ⊥) → markedOf (opened m n es) (answerWords (opened m n es)) ≡ Pass
+  own-passes : (NothingSolves m n es → ⊥) → markedOf (opened m n es) block ≡ Gets Pass
   own-passes solvable =
       ⊎-elim (λ h. absurd (solvable (no-start m n es .0 h)))
       (λ found. own-mark m n es positive (omega (arith, allowed .largest)) (omega (arith, allowed .hasUnknowns))
@@ -115,21 +117,21 @@ own-block-passes calls m n es old holds solvable h =
 
 -- ---- what the questions decide
 
-buffer-refused : (l : Ledger) {c : Call} (a : Asks c) (old : List ℕ) → 0 < refusalOf l c → bufferAfter l a old ≡ old
-unfolding bufferAfter
-buffer-refused l {c} a old h = rw (ne-eqb (refusalOf l c) 0 (λ e. omega arith))
+buffer-kept : (l : Ledger) (old : List ℕ) → 0 < refusalOf l (queries (answers old)) → bufferAfter l old ≡ old
+buffer-kept l old h = buffer-asked l old ∙ rw (ne-eqb (refusalOf l (queries (answers old))) 0 (λ e. omega arith))
 
 pub decided-always : DecidedAlways
-unfolding turnOf enteredOf answeredOf markedOf
+unfolding turnOf enteredOf markedOf
 decided-always calls =
     let reads = after-reads calls in
     let refused : (c : Call) → 0 < refusalOf (ledger calls) c → 0 < refusalOf (ledgerOf (after calls)) c =
     λ c h. subst (λ (l : Ledger). 0 < refusalOf l c) (sym reads) h in
     record {
       reads = reads;
-      entering = λ c e. ap (λ (l : Ledger). enteredOf l e) reads;
-      answering = λ c a. ap (λ (l : Ledger). answeredOf l a) reads;
+      entering = λ e. ap (λ (l : Ledger). enteredOf l e) reads;
+      answering = λ old. ap (λ (l : Ledger). answeredOf l old) reads ∙ answered-asked (ledger calls) old;
+      showing = λ w. ap (λ (l : Ledger). shownOf l w .refused) reads ∙ shown-refusal (ledger calls) w;
       marking = λ ws. ap (λ (l : Ledger). markedOf l ws) reads;
       sheetKept = λ c h. left-refused (after calls) c (refused c h);
-      bufferKept = λ c a old h. buffer-refused (ledgerOf (after calls)) a old (refused c h);
+      bufferKept = λ old h. buffer-kept (ledgerOf (after calls)) old (refused (queries (answers old)) h);
     }

@@ -1,6 +1,6 @@
 -- The ledger that a sheet's record reads as.
 --   Fit, readable-fit, fit-readable   what a readable record is
---   filled-fits, length-lines         its equations lie in its cells
+--   filled, filled-fits, length-lines  its equations lie in its cells
 --   lying                             the ledger that lies in it
 --   ledger-opened, ledger-unopened    a readable record reads as that ledger, any other as an unopened one
 --   opened-readable                   and only a readable record is
@@ -28,7 +28,7 @@ use Rattle.equations.proofs.Lines.{equations-count}
 use Rattle.ledger.specs.Ledger.{Ledger, unopened, opened, isOpened, equationsIn, mostEquations, mostUnknowns}
 use Rattle.ledger.specs.Questions.{allowedUnknowns}
 use Rattle.sheet.specs.declared.Sheet.{Sheet}
-use Rattle.sheet.specs.Record.{room, filled, linesIn, readable, ledgerOf}
+use Rattle.sheet.specs.Record.{room, cellsOf, linesIn, readable, ledgerOf}
 
 pub record Fit (s : Sheet) : Type 0 where
   pub modulus : 2 ≤ s .modulus
@@ -38,6 +38,9 @@ pub record Fit (s : Sheet) : Type 0 where
   pub equations : s .held ≤ mostEquations
   pub whole : length (s .cells) ≡ room
   pub residues : Below (s .modulus) (linesIn s)
+
+abbrev pub filled : Sheet → ℕ
+filled s = cellsOf s (s .held)
 
 module _ (s : Sheet) where
   -- the tests, from the last to the first

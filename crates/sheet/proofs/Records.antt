@@ -1,37 +1,36 @@
--- The records that open, add and strike make, and the ledgers that they read as.
---   reads-opening    a record without equations
---   more-fits        there is room for one equation more
---   reads-adding     the record with one equation more
---   reads-striking   the record that counts one less
-use mathlib.Core.Path.{_≡_, refl, sym, ap, subst, _∙_}
+-- The records that the effects make, and the ledgers that they read as.
+--   changed-reads   the new record reads as the changed ledger
+--   more-fits       there is room for one equation more
+use mathlib.Core.Path.{_≡_, refl, sym, ap, ap₂, subst, _∙_}
 use mathlib.Core.List.{List, [], _∷_, _++_, append-assoc}
-use Prim.Native.Nat.{ℕ, _+_, _-_, _*_, _≤_, _<_}
+use Prim.Native.Nat.{ℕ, zero, suc, _+_, _-_, _*_, _≤_, _<_}
 use native.Mathlib.Nat.{mul-le-mul, mul-le-mul-right, zero-mul}
 use native.Mathlib.Omega.{arith}
 use lib.Dec.{T}
-use lib.ListN.{length, take, drop, replicate, length-append, length-drop, length-map, length-replicate}
-use lib.Seq.{take-at, take-take}
+use lib.ListN.{length, take, drop, replicate, length-append, length-drop, length-replicate}
+use lib.Seq.{take-at, take-take, length-take-le}
+use Rattle.slices.specs.Over.{over}
 use Rattle.questions.specs.Questions.{allowedModulus, largestModulus}
 use Rattle.questions.proofs.Questions.{within-range}
 use Rattle.equations.specs.Vectors.{Below}
 use Rattle.equations.specs.Equation.{Equation}
-use Rattle.equations.specs.Multipliers.{allBelow}
-use Rattle.equations.specs.Lines.{equationAt, equationsOf}
-use Rattle.equations.proofs.Vectors.{all-below, below-append, below-take}
-use Rattle.equations.proofs.Lines.{equations-none, equations-snoc, equations-take, equations-count}
-use Rattle.words.specs.Words.{numberOf, numbersOf}
-use Rattle.ledger.specs.Ledger.{opened, mostEquations, mostUnknowns}
+use Rattle.equations.specs.Lines.{equationsOf}
+use Rattle.equations.proofs.Vectors.{below-append, below-take}
+use Rattle.equations.proofs.Lines.{equations-none, equations-snoc, equations-take}
+use Rattle.ledger.specs.Ledger.{Ledger, opened, mostEquations, mostUnknowns}
 use Rattle.ledger.specs.Questions.{allowedUnknowns}
-use Rattle.ledger.specs.History.{shortened}
+use Rattle.ledger.specs.History.{Effect, begins, gains, loses, changed, without}
+use Rattle.ledger.proofs.Effects.{Gains, Allows}
 use Rattle.sheet.specs.declared.Sheet.{Sheet}
-use Rattle.sheet.specs.Record.{room, filled, linesIn, ledgerOf, withEquation, withoutLast}
-use Rattle.sheet.proofs.Reading.{Fit, fit-readable, length-lines, ledger-opened}
+use Rattle.sheet.specs.Record.{room, cellsOf, linesIn, ledgerOf, writtenAt, recordBy}
+use Rattle.sheet.proofs.Reading.{Fit, filled, lying, readable-fit, fit-readable, length-lines, filled-fits, opened-readable, ledger-opened, held-counts}
+use Rattle.sheet.proofs.Joined.{equations-append, equations-drop, equation-line}
 
 fit-reads : (s : Sheet) → Fit s → (es : List Equation) → equationsOf (s .unknowns) (linesIn s) ≡ es
     → ledgerOf s ≡ opened (s .modulus) (s .unknowns) es
 fit-reads s f es h = ledger-opened s (fit-readable s f) ∙ ap (opened (s .modulus) (s .unknowns)) h
 
--- ---- open
+-- ---- a record without equations
 
 module _ (s : Sheet) (none : s .held ≡ 0) where
   lines-none : linesIn s ≡ []
@@ -54,105 +53,125 @@ module _ (s : Sheet) (none : s .held ≡ 0) where
       } in
       fit-reads s f [] (equations-none (s .unknowns) (linesIn s) (omega (arith, ap length lines-none)))
 
-pub reads-opening : (m n : ℕ) → T (allowedModulus m) → T (allowedUnknowns n)
-    → ledgerOf (record { modulus = m; unknowns = n; held = 0; cells = replicate room 0 }) ≡ opened m n []
-reads-opening m n modulus unknowns =
-    reads-empty (record { modulus = m; unknowns = n; held = 0; cells = replicate room 0 }) refl modulus unknowns
-    (length-replicate {A = ℕ} room 0)
+-- ---- cells with numbers written from a place on
 
--- ---- add and strike, on a readable record
+module _ (i : ℕ) (xs cells : List ℕ) (fits : i + length xs ≤ length cells) where
+  abbrev rest : List ℕ
+  rest = drop (length xs) (drop i cells)
+
+  joined : writtenAt i xs cells ≡ (take i cells ++ xs) ++ rest
+  joined = sym (append-assoc (take i cells) xs rest)
+
+  joined-length : length (take i cells ++ xs) ≡ i + length xs
+  joined-length = omega (arith, length-append (take i cells) xs, length-take-le i cells (omega arith))
+
+  written-front : (k : ℕ) → i + length xs ≡ k → take k (writtenAt i xs cells) ≡ take i cells ++ xs
+  written-front k is = ap (take k) joined ∙ take-at (take i cells ++ xs) rest k (joined-length ∙ is)
+
+  written-length : length (writtenAt i xs cells) ≡ length cells
+  written-length =
+      omega (
+        arith,
+        ap length joined,
+        length-append (take i cells ++ xs) rest,
+        joined-length,
+        length-drop i cells,
+        length-drop (length xs) (drop i cells),
+      )
+
+below-drop : (m k : ℕ) (xs : List ℕ) → Below m xs → Below m (drop k xs)
+below-drop m zero xs h = h
+below-drop m (suc k) [] h = tt
+below-drop m (suc k) (x ∷ xs) h = below-drop m k xs (h .1)
+
+-- ---- the lines that a record holds, and those that it then holds
 
 module _ (s : Sheet) (f : Fit s) where
-  module _ (ws : List ℕ) (long : length ws ≡ s .unknowns + 1) (under : s .held < mostEquations) where
-    numbers-long : length (numbersOf ws) ≡ s .unknowns + 1
-    numbers-long = length-map ws numberOf ∙ long
-
-    pub more-fits : filled s + (s .unknowns + 1) ≤ length (s .cells)
-    more-fits =
-        omega (
-          arith,
-          f .whole,
-          mul-le-mul {n₁ = s .held + 1} {m₁ = s .unknowns + 1} {n₂ = 16} {m₂ = 17} (omega (arith, under))
-              (omega (arith, f .unknowns)),
-        )
-
-    abbrev rest : List ℕ
-    rest = drop (length (numbersOf ws)) (drop (filled s) (s .cells))
-
-    joined : withEquation s ws .cells ≡ (linesIn s ++ numbersOf ws) ++ rest
-    joined = sym (append-assoc (linesIn s) (numbersOf ws) rest)
-
-    joined-length : length (linesIn s ++ numbersOf ws) ≡ (s .held + 1) * (s .unknowns + 1)
-    joined-length = omega (arith, length-append (linesIn s) (numbersOf ws), length-lines s f, numbers-long)
-
-    lines-added : linesIn (withEquation s ws) ≡ linesIn s ++ numbersOf ws
-    lines-added =
-        ap (take (filled (withEquation s ws))) joined
-        ∙ take-at (linesIn s ++ numbersOf ws) rest ((s .held + 1) * (s .unknowns + 1)) joined-length
-
-    added-whole : length (withEquation s ws .cells) ≡ room
-    added-whole =
-        omega (
-          arith,
-          ap length joined,
-          length-append (linesIn s ++ numbersOf ws) rest,
-          joined-length,
-          f .whole,
-          more-fits,
-          numbers-long,
-          length-drop (filled s) (s .cells),
-          length-drop (length (numbersOf ws)) (drop (filled s) (s .cells)),
-        )
-
-    pub reads-adding : T (allBelow (s .modulus) (numbersOf ws))
-        → ledgerOf (withEquation s ws)
-        ≡ opened (s .modulus) (s .unknowns)
-        (equationsOf (s .unknowns) (linesIn s) ++ (equationAt (s .unknowns) (numbersOf ws) ∷ []))
-    reads-adding below =
-        let g : Fit (withEquation s ws) =
-        record {
-          modulus = f .modulus;
-          largest = f .largest;
-          hasUnknowns = f .hasUnknowns;
-          unknowns = f .unknowns;
-          equations = omega (arith, under);
-          whole = added-whole;
-          residues =
-              subst (Below (s .modulus)) (sym lines-added)
-              (below-append (s .modulus) (linesIn s) (numbersOf ws) (f .residues)
-              (all-below (s .modulus) (numbersOf ws) .0 below));
-        } in
-        fit-reads (withEquation s ws) g _
-        (ap (equationsOf (s .unknowns)) lines-added
-        ∙ equations-snoc (s .held) (s .unknowns) (linesIn s) (numbersOf ws) (length-lines s f) numbers-long)
-
-  fewer : (s .held - 1) * (s .unknowns + 1) ≤ filled s
-  fewer = mul-le-mul-right (s .unknowns + 1) (omega arith)
-
-  lines-struck : linesIn (withoutLast s) ≡ take ((s .held - 1) * (s .unknowns + 1)) (linesIn s)
-  lines-struck = sym (take-take ((s .held - 1) * (s .unknowns + 1)) (filled s) (s .cells) fewer)
-
-  equations-struck : equationsOf (s .unknowns) (linesIn (withoutLast s))
-      ≡ take (length (equationsOf (s .unknowns) (linesIn s)) - 1) (equationsOf (s .unknowns) (linesIn s))
-  equations-struck =
-      ap (equationsOf (s .unknowns)) lines-struck
-      ∙ equations-take (s .held - 1) (s .unknowns) (linesIn s) (omega (arith, fewer, length-lines s f))
-      ∙ ap (λ (k : ℕ). take (k - 1) (equationsOf (s .unknowns) (linesIn s)))
-      (sym (equations-count (s .held) (s .unknowns) (linesIn s) (length-lines s f)))
-
-  pub reads-striking : ledgerOf (withoutLast s)
-      ≡ shortened (opened (s .modulus) (s .unknowns) (equationsOf (s .unknowns) (linesIn s)))
-  reads-striking =
-      let g : Fit (withoutLast s) =
+  -- a record that differs in its cells and its count reads as the equations in its lines
+  rewritten : (held : ℕ) (i : ℕ) (xs : List ℕ) → held ≤ mostEquations → i + length xs ≡ cellsOf s held
+      → cellsOf s held ≤ length (s .cells) → Below (s .modulus) (take i (s .cells)) → Below (s .modulus) xs
+      → (es : List Equation) → equationsOf (s .unknowns) (take i (s .cells) ++ xs) ≡ es
+      → ledgerOf (record { modulus = s .modulus; unknowns = s .unknowns; held = held; cells = writtenAt i xs (s .cells) })
+      ≡ opened (s .modulus) (s .unknowns) es
+  rewritten held i xs few size fits front back es is =
+      let t : Sheet = record { modulus = s .modulus; unknowns = s .unknowns; held = held; cells = writtenAt i xs (s .cells) } in
+      let lines : linesIn t ≡ take i (s .cells) ++ xs = written-front i xs (s .cells) (omega arith) (cellsOf s held) size in
+      let g : Fit t =
       record {
         modulus = f .modulus;
         largest = f .largest;
         hasUnknowns = f .hasUnknowns;
         unknowns = f .unknowns;
-        equations = omega (arith, f .equations);
-        whole = f .whole;
-        residues =
-            subst (Below (s .modulus)) (sym lines-struck)
-            (below-take (s .modulus) ((s .held - 1) * (s .unknowns + 1)) (linesIn s) (f .residues));
+        equations = few;
+        whole = written-length i xs (s .cells) (omega arith) ∙ f .whole;
+        residues = subst (Below (s .modulus)) (sym lines) (below-append (s .modulus) (take i (s .cells)) xs front back);
       } in
-      fit-reads (withoutLast s) g _ equations-struck
+      fit-reads t g es (ap (equationsOf (s .unknowns)) lines ∙ is)
+
+  pub more-fits : s .held < mostEquations → cellsOf s (s .held + 1) ≤ length (s .cells)
+  more-fits under =
+      omega (
+        arith,
+        f .whole,
+        mul-le-mul {n₁ = s .held + 1} {m₁ = s .unknowns + 1} {n₂ = 16} {m₂ = 17} (omega (arith, under))
+            (omega (arith, f .unknowns)),
+      )
+
+  reads-gaining : (e : Equation) → Gains (lying s) e → s .held < mostEquations
+      → ledgerOf (recordBy s (gains e)) ≡ changed (lying s) (gains e)
+  reads-gaining e g under =
+      let line = e .coefficients ++ (e .right ∷ []) in
+      let long : length line ≡ s .unknowns + 1 = omega (arith, length-append (e .coefficients) (e .right ∷ []), g .shaped) in
+      rewritten (s .held + 1) (filled s) line (omega arith) (omega (arith, long)) (more-fits under) (f .residues)
+      (below-append (s .modulus) (e .coefficients) (e .right ∷ []) (g .coefficients) (g .right, tt)) _
+      (equations-snoc (s .held) (s .unknowns) (linesIn s) line (length-lines s f) long
+      ∙ ap (λ (last : Equation). equationsOf (s .unknowns) (linesIn s) ++ (last ∷ [])) (equation-line (s .unknowns) e (g .shaped)))
+
+  module _ (j : ℕ) (place : j < s .held) where
+    abbrev behind : List ℕ
+    behind = drop (cellsOf s (suc j)) (linesIn s)
+
+    upTo : cellsOf s (suc j) ≤ filled s
+    upTo = mul-le-mul-right (s .unknowns + 1) (omega arith)
+
+    behind-length : cellsOf s j + length behind ≡ cellsOf s (s .held - 1)
+    behind-length =
+        let fewer : s .held ≡ suc (s .held - 1) = omega arith in
+        omega (arith, length-drop (cellsOf s (suc j)) (linesIn s), length-lines s f, upTo, ap (cellsOf s) fewer)
+
+    front : take (cellsOf s j) (s .cells) ≡ take (cellsOf s j) (linesIn s)
+    front = sym (take-take (cellsOf s j) (filled s) (s .cells) (omega (arith, upTo)))
+
+    front-length : length (take (cellsOf s j) (s .cells)) ≡ cellsOf s j
+    front-length = length-take-le (cellsOf s j) (s .cells) (omega (arith, upTo, filled-fits s f))
+
+    equations-left : equationsOf (s .unknowns) (take (cellsOf s j) (s .cells) ++ behind)
+        ≡ without j (equationsOf (s .unknowns) (linesIn s))
+    equations-left =
+        equations-append j (s .unknowns) (take (cellsOf s j) (s .cells)) behind front-length
+        ∙ ap₂ {C = List Equation} _++_
+        (ap (equationsOf (s .unknowns)) front
+        ∙ equations-take j (s .unknowns) (linesIn s) (omega (arith, upTo, length-lines s f)))
+        (equations-drop (suc j) (s .unknowns) (linesIn s) (omega (arith, upTo, length-lines s f)))
+
+    reads-losing : ledgerOf (recordBy s (loses j)) ≡ changed (lying s) (loses j)
+    reads-losing =
+        rewritten (s .held - 1) (cellsOf s j) behind (omega (arith, f .equations)) behind-length
+        (omega (arith, behind-length, length-drop (cellsOf s (suc j)) (linesIn s), length-lines s f, upTo, filled-fits s f))
+        (subst (Below (s .modulus)) (sym front) (below-take (s .modulus) (cellsOf s j) (linesIn s) (f .residues)))
+        (below-drop (s .modulus) (cellsOf s (suc j)) (linesIn s) (f .residues)) _ equations-left
+
+-- ---- by effect
+
+pub changed-reads : (s : Sheet) (e : Effect) → Allows (ledgerOf s) e → ledgerOf (recordBy s e) ≡ changed (ledgerOf s) e
+changed-reads s (begins m n) (modulus, unknowns) =
+    reads-empty (recordBy s (begins m n)) refl modulus unknowns (length-replicate {A = ℕ} room 0)
+changed-reads s (gains e) g =
+    let reads = opened-readable s (g .opened) in
+    let same = ledger-opened s reads in
+    reads-gaining s (readable-fit s reads) e (subst (λ (l : Ledger). Gains l e) same g) (omega (arith, g .under, held-counts s reads))
+    ∙ ap (λ (l : Ledger). changed l (gains e)) (sym same)
+changed-reads s (loses j) (is, place) =
+    let reads = opened-readable s is in
+    reads-losing s (readable-fit s reads) j (omega (arith, place, held-counts s reads))
+    ∙ ap (λ (l : Ledger). changed l (loses j)) (sym (ledger-opened s reads))

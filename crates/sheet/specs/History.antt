@@ -1,22 +1,16 @@
 -- The sheet after a list of calls. "The first call gets a fresh sheet, each later one the sheet that the call before
 -- it returned or left, refused or not." Definitions only.
 use mathlib.Core.List.{List, [], _∷_}
-use Rattle.ledger.specs.Calls.{Call, opens, adds, strikes, answers, marks, strikesFromTape, answersFromTape, meaningless}
+use Rattle.ledger.specs.Calls.{Call, enters, queries}
 use Rattle.sheet.specs.declared.Sheet.{Sheet}
 use Rattle.sheet.specs.Record.{fresh}
-use Rattle.sheet.specs.Calls.{opening, adding, striking, strikingFromTape, turnOf}
+use Rattle.sheet.specs.Calls.{turnOf}
 
--- The sheet that a call returned or left. Answer and mark take the sheet by value and return none: the caller's sheet is
--- then the one passed. So it is with a word on tape that picks no call, which calls nothing.
+-- The sheet that a call returned or left. A query takes the sheet by value and returns none: the caller's sheet is then the one
+-- passed. So it is with a word on tape that picks no call, which calls nothing.
 abbrev pub left : Sheet → Call → Sheet
-left s (opens ws) = turnOf s (opening ws) .sheet
-left s (adds ws) = turnOf s (adding ws) .sheet
-left s strikes = turnOf s striking .sheet
-left s (strikesFromTape w) = turnOf s (strikingFromTape w) .sheet
-left s (answers buffer) = s
-left s (answersFromTape w) = s
-left s (marks ws) = s
-left s (meaningless w) = s
+left s (enters e) = turnOf s e .sheet
+left s (queries q) = s
 
 -- the sheet after more calls
 unfoldable pub sheetFrom : Sheet → List Call → Sheet

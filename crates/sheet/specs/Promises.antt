@@ -1,12 +1,11 @@
 -- Demand 3, in the customer's words, and what stands beside it. Each promise is a type; proofs/Promises.antt keeps it.
 --
--- Why this is about the code: `turnOf`, `answeredOf`, `bufferAfter` and `markedOf` are what the contracts of open, add, strike,
--- answer and mark say that the calls give back and leave, for every sheet, all words and any buffer. `after` puts each call's
--- sheet into the next call. So `after calls` is the sheet that the caller has after the calls, and what is promised here of
--- those four names at that sheet is what the next call does. `ledger` sees the calls alone. Definitions only.
+-- Why this is about the code: `turnOf`, `answeredOf`, `bufferAfter`, `shownOf` and `markedOf` are what the contracts of open, add,
+-- strike, answer and mark say that the calls give back and leave, for every sheet, all words and any buffer. `after` puts each
+-- call's sheet into the next call. So `after calls` is the sheet that the caller has after the calls, and what is promised here
+-- of those five names at that sheet is what the next call does. `ledger` sees the calls alone. Definitions only.
 use mathlib.Core.Path.{_≡_}
 use mathlib.Core.Logic.{_↔_}
-use mathlib.Core.Bool.{cond}
 use mathlib.Core.List.{List, _∷_, _++_, flatten}
 use mathlib.Core.Option.{some}
 use Prim.Native.Nat.{ℕ, suc, _<_, _≤_}
@@ -18,33 +17,31 @@ use Rattle.equations.specs.Vectors.{Vector}
 use Rattle.equations.specs.Equation.{Equation, solves}
 use Rattle.equations.specs.Answer.{startOf, stepsOf}
 use Rattle.equations.specs.Multipliers.{refutes, allBelow}
+use Rattle.equations.specs.declared.Mark.the-variants.{Pass, Fail}
 use Rattle.equations.specs.Claim.{Claim, describes}
-use Rattle.words.specs.Words.{word, wordsOf, headKind, entryKind, multiplierKind}
+use Rattle.words.specs.Words.{word, wordsIn, wordsOf, headKind, entryKind, multiplierKind}
 use Rattle.ledger.specs.Ledger.{opened, equationsIn}
 use Rattle.ledger.specs.Allowed.{Allowed}
 use Rattle.ledger.specs.Shapes.{isClaim, entriesOf, claimFrom}
-use Rattle.ledger.specs.Block.{longestBlock, answerWords}
-use Rattle.ledger.specs.Marking.{claimPasses}
-use Rattle.ledger.specs.Calls.{Call, opens, marks}
+use Rattle.ledger.specs.Block.{longestBlock, blockWords, answerWords}
+use Rattle.ledger.specs.Marking.{claimMark}
+use Rattle.ledger.specs.Calls.{Call, Entry, opens, answers, answersFromTape, marks, enters, queries}
 use Rattle.ledger.specs.Questions.{plain, refusalOf}
 use Rattle.ledger.specs.History.{enter, ledger}
-use Rattle.sheet.specs.declared.Entered.the-variants.{Holds}
-use Rattle.sheet.specs.declared.Entered.the-variants.{Refused as Entered·Refused}
-use Rattle.sheet.specs.declared.answering.Answered.{Answered}
-use Rattle.sheet.specs.declared.answering.Answered.the-variants.{Wrote}
-use Rattle.sheet.specs.declared.answering.Answered.the-variants.{Refused as Answered·Refused}
+use Rattle.sheet.specs.declared.Entered.the-variants.{Holds, Refused as Entered·Refused}
+use Rattle.sheet.specs.declared.answering.Answered.the-variants.{Wrote, Refused as Answered·Refused}
+use Rattle.sheet.specs.declared.answering.Shown.{Shown}
 use Rattle.sheet.specs.declared.marking.Marked.{Marked}
-use Rattle.sheet.specs.declared.marking.Marked.the-variants.{Pass, Fail}
-use Rattle.sheet.specs.declared.marking.Marked.the-variants.{Refused as Marked·Refused}
+use Rattle.sheet.specs.declared.marking.Marked.the-variants.{Gets, Refused as Marked·Refused}
 use Rattle.sheet.specs.Record.{ledgerOf}
-use Rattle.sheet.specs.Calls.{Enters, Asks, asking, askingFromTape, turnOf, answeredOf, bufferAfter, markedOf}
+use Rattle.sheet.specs.Calls.{turnOf, answeredOf, bufferAfter, shownOf, markedOf}
 use Rattle.sheet.specs.History.{left, after}
 
 -- "refused calls anywhere in it and at least one opening accepted": by the questions, asked of the ledger at that place
 abbrev pub OpeningAccepted : List Call → Type 0
 OpeningAccepted calls =
     (before : List Call) × (ws : List ℕ) × (rest : List Call)
-    × (calls ≡ before ++ (opens ws ∷ rest)) × (refusalOf (ledger before) (opens ws) ≡ 0)
+    × (calls ≡ before ++ (enters (opens ws) ∷ rest)) × (refusalOf (ledger before) (enters (opens ws)) ≡ 0)
 
 -- "no vector of residues solves all those equations"
 abbrev pub NothingSolves : ℕ → ℕ → List Equation → Type 0
@@ -64,13 +61,14 @@ pub record RightBlock (m n : ℕ) (es : List Equation) (block : List ℕ) : Type
       → (start : List ℕ) × (startOf m n es ≡ some start)
       × (block ≡ word headKind (suc (length (stepsOf m n es))) ∷ wordsOf entryKind (start ++ flatten (stepsOf m n es)))
 
--- an answer that wrote the block to the front of a buffer that held `old`, and kept what is behind it
-abbrev pub Shown : List ℕ → List ℕ → Answered → List ℕ → Type 0
-Shown block old answered buffer = (answered ≡ Wrote (length block)) × (buffer ≡ over block old)
+-- numbers whose words are the block
+abbrev pub Shows : List ℕ → Shown → Type 0
+Shows block shown =
+    (shown .refused ≡ 0) × (blockWords (shown .block .head ∷ take (shown .block .len) (shown .block .numbers)) ≡ block)
 
 -- "a well-formed claim": "if its shape is right and its entries are below m"
 abbrev pub WellFormed : ℕ → ℕ → List ℕ → Type 0
-WellFormed m n ws = T (isClaim n ws) × T (allBelow m (entriesOf ws))
+WellFormed m n ws = T (isClaim n (wordsIn ws)) × T (allBelow m (entriesOf (wordsIn ws)))
 
 -- "the vectors it describes are the vectors that solve all those equations"
 abbrev pub DescribesSolutions : ℕ → ℕ → List Equation → Claim → Type 0
@@ -78,8 +76,8 @@ DescribesSolutions m n es claim = (v : List ℕ) → T (describes m claim v) ↔
 
 -- "passed exactly when the vectors it describes are the vectors that solve all those equations, and failed otherwise"
 pub record RightMark (m n : ℕ) (es : List Equation) (claim : Claim) (marked : Marked) : Type 0 where
-  pub passed : (marked ≡ Pass) ↔ DescribesSolutions m n es claim
-  pub failed : (marked ≡ Fail) ↔ (DescribesSolutions m n es claim → ⊥)
+  pub passed : (marked ≡ Gets Pass) ↔ DescribesSolutions m n es claim
+  pub failed : (marked ≡ Gets Fail) ↔ (DescribesSolutions m n es claim → ⊥)
 
 -- What demand 3 says after a list of calls.
 pub record Promised (calls : List Call) : Type 0 where
@@ -93,19 +91,18 @@ pub record Promised (calls : List Call) : Type 0 where
   pub block : List ℕ
   pub right : RightBlock m n es block
   pub fits : length block ≤ longestBlock
-  -- "An answer asked for then, into a long enough buffer": "Buffer long enough for this block? 8"
+  -- "An answer asked for then, into a long enough buffer": "Buffer long enough for this block? 8". It is written to the front of a
+  -- buffer that held `old`, and what is behind it is kept.
   pub answer : (old : List ℕ) → length block ≤ length old
-      → Shown block old (answeredOf (ledgerOf (after calls)) (asking old))
-      (bufferAfter (ledgerOf (after calls)) (asking old) old)
+      → (answeredOf (ledgerOf (after calls)) old ≡ Wrote (length block))
+      × (bufferAfter (ledgerOf (after calls)) old ≡ over block old)
   pub short : (old : List ℕ) → length old < length block
-      → answeredOf (ledgerOf (after calls)) (asking old) ≡ Answered·Refused 8
-  -- the same from tape, with a word whose number is 0, into a buffer that every block fits: "on tape it always is" long enough
-  pub answerFromTape : (w : ℕ) (old : List ℕ) → T (plain w) → length old ≡ longestBlock
-      → Shown block old (answeredOf (ledgerOf (after calls)) (askingFromTape w))
-      (bufferAfter (ledgerOf (after calls)) (askingFromTape w) old)
+      → answeredOf (ledgerOf (after calls)) old ≡ Answered·Refused 8
+  -- the same from tape, with a word whose number is 0: its numbers; "on tape it always is" long enough
+  pub answerFromTape : (w : ℕ) → T (plain w) → Shows block (shownOf (ledgerOf (after calls)) w)
   -- "And a well-formed claim marked then"
   pub mark : (ws : List ℕ) → WellFormed m n ws
-      → RightMark m n es (claimFrom n ws) (markedOf (ledgerOf (after calls)) ws)
+      → RightMark m n es (claimFrom n (wordsIn ws)) (markedOf (ledgerOf (after calls)) ws)
 
 -- "For every list of the calls open, add, strike, answer and mark from a fresh sheet, refused calls anywhere in it and
 -- at least one opening accepted"
@@ -118,20 +115,21 @@ pub record Decided (calls : List Call) : Type 0 where
   -- the sheet reads as the ledger that sees the calls alone
   pub reads : ledgerOf (after calls) ≡ ledger calls
   -- "Nothing is turned away except by a question in document 01, with that question's number"
-  pub entering : (c : Call) (e : Enters c)
+  pub entering : (e : Entry)
       → turnOf (after calls) e .entered
-      ≡ unlessRefused Entered·Refused (refusalOf (ledger calls) c) (Holds (length (equationsIn (enter (ledger calls) c))))
-  pub answering : (c : Call) (a : Asks c)
-      → answeredOf (ledgerOf (after calls)) a
-      ≡ unlessRefused Answered·Refused (refusalOf (ledger calls) c) (Wrote (length (answerWords (ledger calls))))
+      ≡ unlessRefused Entered·Refused (refusalOf (ledger calls) (enters e)) (Holds (length (equationsIn (enter (ledger calls) (enters e)))))
+  pub answering : (old : List ℕ)
+      → answeredOf (ledgerOf (after calls)) old
+      ≡ unlessRefused Answered·Refused (refusalOf (ledger calls) (queries (answers old))) (Wrote (length (answerWords (ledger calls))))
+  pub showing : (w : ℕ) → shownOf (ledgerOf (after calls)) w .refused ≡ refusalOf (ledger calls) (queries (answersFromTape w))
   pub marking : (ws : List ℕ)
       → markedOf (ledgerOf (after calls)) ws
-      ≡ unlessRefused Marked·Refused (refusalOf (ledger calls) (marks ws)) (cond (claimPasses (ledger calls) ws) Pass Fail)
-  -- "and then the sheet and all lent memory hold what they held": the sheet after every call, since a caller has one after marks,
-  -- answers and words that pick no call too
+      ≡ unlessRefused Marked·Refused (refusalOf (ledger calls) (queries (marks ws))) (Gets (claimMark (ledger calls) ws))
+  -- "and then the sheet and all lent memory hold what they held": the sheet after every call, since a caller has one after
+  -- queries too
   pub sheetKept : (c : Call) → 0 < refusalOf (ledger calls) c → left (after calls) c ≡ after calls
-  pub bufferKept : (c : Call) (a : Asks c) (old : List ℕ) → 0 < refusalOf (ledger calls) c
-      → bufferAfter (ledgerOf (after calls)) a old ≡ old
+  pub bufferKept : (old : List ℕ) → 0 < refusalOf (ledger calls) (queries (answers old))
+      → bufferAfter (ledgerOf (after calls)) old ≡ old
 
 abbrev pub DecidedAlways : Type 0
 DecidedAlways = (calls : List Call) → Decided calls
@@ -141,6 +139,5 @@ abbrev pub OwnBlockPasses : Type 0
 OwnBlockPasses =
     (calls : List Call) (m n : ℕ) (es : List Equation) (old : List ℕ)
     → ledger calls ≡ opened m n es → (NothingSolves m n es → ⊥) → length (answerWords (ledger calls)) ≤ length old
-    → markedOf (ledgerOf (after calls))
-    (take (length (answerWords (ledger calls))) (bufferAfter (ledgerOf (after calls)) (asking old) old))
-    ≡ Pass
+    → markedOf (ledgerOf (after calls)) (take (length (answerWords (ledger calls))) (bufferAfter (ledgerOf (after calls)) old))
+    ≡ Gets Pass

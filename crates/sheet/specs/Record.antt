@@ -1,18 +1,16 @@
--- The sheet's record: the ledger that it reads as, and the new record after an accepted call. Definitions only.
+-- The sheet's record: the ledger that it reads as, and the new record by the effect of an accepted call. Definitions only.
 use mathlib.Core.Bool.{Bool, cond, _&&_}
-use mathlib.Core.List.{List, _++_}
-use Prim.Native.Nat.{ℕ, _+_, _-_, _*_}
+use mathlib.Core.List.{List, [], _∷_, _++_}
+use Prim.Native.Nat.{ℕ, suc, _+_, _-_, _*_}
 use lib.Dec.{eqb, leb}
 use lib.ListN.{length, take, drop, replicate}
 use Rattle.slices.specs.Over.{over}
 use Rattle.questions.specs.Questions.{allowedModulus}
 use Rattle.equations.specs.Lines.{equationsOf}
 use Rattle.equations.specs.Multipliers.{allBelow}
-use Rattle.words.specs.Words.{numbersOf}
 use Rattle.ledger.specs.Ledger.{Ledger, unopened, opened, mostEquations}
-use Rattle.ledger.specs.Shapes.{numberAt}
-use Rattle.ledger.specs.Calls.{Call, opens, adds, strikes, answers, marks, strikesFromTape, answersFromTape, meaningless}
 use Rattle.ledger.specs.Questions.{allowedUnknowns}
+use Rattle.ledger.specs.History.{Effect, begins, gains, loses}
 use Rattle.sheet.specs.declared.Sheet.{Sheet}
 
 -- room for 16 equations, each with 16 coefficients and a right side
@@ -23,13 +21,13 @@ room = 272
 unfoldable pub fresh : Sheet
 fresh = record { modulus = 0; unknowns = 0; held = 0; cells = replicate room 0 }
 
--- how many cells the equations take
-abbrev pub filled : Sheet → ℕ
-filled s = s .held * (s .unknowns + 1)
+-- how many cells k equations take
+abbrev pub cellsOf : Sheet → ℕ → ℕ
+cellsOf s k = k * (s .unknowns + 1)
 
 -- the cells that hold the equations
 abbrev pub linesIn : Sheet → List ℕ
-linesIn s = take (filled s) (s .cells)
+linesIn s = take (cellsOf s (s .held)) (s .cells)
 
 -- whether the numbers of the record that count are such as calls put there
 abbrev pub readable : Sheet → Bool
@@ -41,28 +39,26 @@ readable s =
 unfoldable pub ledgerOf : Sheet → Ledger
 ledgerOf s = cond (readable s) (opened (s .modulus) (s .unknowns) (equationsOf (s .unknowns) (linesIn s))) unopened
 
--- the record with the words' numbers behind the equations that it holds
-abbrev pub withEquation : Sheet → List ℕ → Sheet
-withEquation s ws =
+-- the cells with xs written from place i on
+abbrev pub writtenAt : ℕ → List ℕ → List ℕ → List ℕ
+writtenAt i xs cells = take i cells ++ over xs (drop i cells)
+
+-- the record after a call with this effect
+abbrev pub recordBy : Sheet → Effect → Sheet
+recordBy s (begins m n) = record { modulus = m; unknowns = n; held = 0; cells = replicate room 0 }
+-- the equation behind those that it holds
+recordBy s (gains e) =
     record {
       modulus = s .modulus;
       unknowns = s .unknowns;
       held = s .held + 1;
-      cells = take (filled s) (s .cells) ++ over (numbersOf ws) (drop (filled s) (s .cells));
+      cells = writtenAt (cellsOf s (s .held)) (e .coefficients ++ (e .right ∷ [])) (s .cells);
     }
-
--- the record that counts one equation less; the cells keep it
-abbrev pub withoutLast : Sheet → Sheet
-withoutLast s = record { modulus = s .modulus; unknowns = s .unknowns; held = s .held - 1; cells = s .cells }
-
--- the record after an accepted call
-abbrev pub recordAfter : Sheet → Call → Sheet
-recordAfter s (opens ws) =
-    record { modulus = numberAt ws 0; unknowns = numberAt ws 1; held = 0; cells = replicate room 0 }
-recordAfter s (adds ws) = withEquation s ws
-recordAfter s strikes = withoutLast s
-recordAfter s (strikesFromTape w) = withoutLast s
-recordAfter s (answers buffer) = s
-recordAfter s (answersFromTape w) = s
-recordAfter s (marks ws) = s
-recordAfter s (meaningless w) = s
+-- the equations behind place j one place up; the cells behind them keep what they held
+recordBy s (loses j) =
+    record {
+      modulus = s .modulus;
+      unknowns = s .unknowns;
+      held = s .held - 1;
+      cells = writtenAt (cellsOf s j) (drop (cellsOf s (suc j)) (linesIn s)) (s .cells);
+    }

@@ -2,15 +2,14 @@
 // answered and marked. Every call takes any sheet, any words and any buffer.
 pub mod adding;
 pub mod answering;
-mod asking;
-pub mod counting;
 pub mod marking;
 pub mod opening;
-mod shapes;
 pub mod striking;
+pub mod viewing;
 
 ghost use mathlib.Core.Path.{_≡_};
 ghost use Rattle.sheet.specs.Record.{fresh};
+use system::limits;
 
 // The equations lie one behind the other at the front of the cells: as many coefficients as there are unknowns, then the
 // right side. There is room for 16 of them with 16 unknowns.
@@ -18,7 +17,7 @@ pub struct Sheet {
     modulus: u32,
     unknowns: usize,
     held: usize,
-    cells: [u32; 272],
+    cells: [u32; limits::CELLS],
 }
 
 // What open, add and strike say: how many equations the sheet then holds, or the number of a refusal.
@@ -33,10 +32,16 @@ pub struct Turn {
     pub entered: Entered,
 }
 
-impl Sheet {
-    pub const EQUATIONS: usize = 16;
+pub(crate) fn wide(x: u32) -> usize
+    ensures { λ r. ⌜ r ≡ x ⌝ }
+{
+    x as usize
+}
 
-    pub const UNKNOWNS: usize = 16;
+impl Sheet {
+    pub const EQUATIONS: usize = limits::EQUATIONS;
+
+    pub const UNKNOWNS: usize = limits::UNKNOWNS;
 
     // No modulus yet: the sheet is unopened.
     pub fn fresh() -> Sheet
@@ -46,7 +51,7 @@ impl Sheet {
             modulus: 0,
             unknowns: 0,
             held: 0,
-            cells: [0u32; 272],
+            cells: [0u32; limits::CELLS],
         }
     }
 

@@ -3,34 +3,37 @@ ghost use mathlib.Core.Path.{_≡_};
 ghost use Rattle.sheet.specs.Record.{ledgerOf};
 ghost use Rattle.sheet.specs.Calls.{markedOf};
 use crate::Sheet;
-use crate::asking::mark_refusal;
+use crate::wide;
+use asking::queries::CLAIM_ROOM;
+use asking::queries::mark_refusal;
+use equations::Mark;
 use system::marking::mark as claim_passes;
-use words::reading::numbers;
 
-// Whether the claim describes exactly the solutions, or the number of a refusal.
+// The mark, or the number of a refusal.
 pub enum Marked {
-    Pass,
-    Fail,
+    Gets(Mark),
     Refused(u32),
 }
 
 impl Sheet {
-    // The numbers of the entries are marked: 17 vectors of 16 at most.
+    // The numbers of the entries are marked, so many times n as the head says.
     pub fn mark(self, words: &[u32]) -> Marked
         ensures { λ r. ⌜ r ≡ markedOf (ledgerOf self) (now (words .entry)) ⌝ }
     {
-        let refusal = mark_refusal(self, words);
+        let view = self.view();
+        let seen = view.seen;
+        let mut numbers = [0u32; CLAIM_ROOM];
+        let refusal = mark_refusal(seen, words, &mut numbers);
         if refusal != 0 {
             return Marked::Refused(refusal);
         }
-        let n = self.unknowns;
-        let cells = self.cells;
-        let mut entries = [0u32; 272];
-        numbers(&words[1..], &mut entries);
-        let lines = &cells[..self.held * (n + 1)];
-        if claim_passes(self.modulus, n, lines, &entries[..words.len() - 1]) {
-            return Marked::Pass;
+        let n = seen.unknowns;
+        let end = wide(numbers[0]) * n + 1;
+        let len = view.len;
+        let lines = view.lines;
+        if claim_passes(seen.modulus, n, &lines[..len], &numbers[1..end]) {
+            return Marked::Gets(Mark::Pass);
         }
-        Marked::Fail
+        Marked::Gets(Mark::Fail)
     }
 }

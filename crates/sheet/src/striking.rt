@@ -1,51 +1,65 @@
 // Striking the last equation of a sheet.
 ghost use mathlib.Core.Path.{_≡_};
 ghost use Prim.Native.Nat.{_-_, _<_};
-ghost use Rattle.sheet.specs.Record.{withoutLast};
-ghost use Rattle.sheet.specs.Calls.{striking, strikingFromTape, turnOf};
+ghost use lib.Dec.{T};
+ghost use Rattle.ledger.specs.Ledger.{isOpened};
+ghost use Rattle.ledger.specs.Calls.{strikes, strikesFromTape};
+ghost use Rattle.ledger.specs.History.{loses};
+ghost use Rattle.sheet.specs.Record.{ledgerOf, recordBy};
+ghost use Rattle.sheet.specs.Calls.{turnOf};
 use crate::Entered;
 use crate::Sheet;
 use crate::Turn;
-use crate::asking::strike_refusal;
-use crate::asking::strike_word_refusal;
+use asking::entries::strike_refusal;
+use asking::entries::strike_word_refusal;
+use slices::copying::copy;
 
 impl Sheet {
     pub fn strike(self) -> Turn
-        ensures { λ r. ⌜ r ≡ turnOf self striking ⌝ }
+        ensures { λ r. ⌜ r ≡ turnOf self strikes ⌝ }
     {
-        let refusal = strike_refusal(self);
+        let seen = self.seen();
+        let refusal = strike_refusal(seen);
         if refusal != 0 {
             return self.refused(refusal);
         }
-        self.shortened()
+        self.without_line(seen.held - 1)
     }
 
     // A strike from tape, with its word.
     pub fn strike_from_tape(self, word: u32) -> Turn
-        ensures { λ r. ⌜ r ≡ turnOf self (strikingFromTape word) ⌝ }
+        ensures { λ r. ⌜ r ≡ turnOf self (strikesFromTape word) ⌝ }
     {
-        let refusal = strike_word_refusal(self, word);
+        let seen = self.seen();
+        let refusal = strike_word_refusal(seen, word);
         if refusal != 0 {
             return self.refused(refusal);
         }
-        self.shortened()
+        self.without_line(seen.held - 1)
     }
 
-    // The sheet with one equation less; the cells keep it.
-    fn shortened(self) -> Turn
-        requires { ⌜ 0 < self .held ⌝ }
-        ensures { λ r. ⌜ r ≡ record { sheet = withoutLast self; entered = Entered.Holds (self .held - 1) } ⌝ }
+    // The sheet without the equation at a place: those behind it close up.
+    fn without_line(self, place: usize) -> Turn
+        requires { ⌜ T (isOpened (ledgerOf self)) × (place < self .held) ⌝ }
+        ensures { λ r. ⌜ r ≡ record { sheet = recordBy self (loses place); entered = Entered.Holds (self .held - 1) } ⌝ }
     {
-        let held = self.held - 1;
-        let cells = self.cells;
+        let width = self.unknowns + 1;
+        let held = self.held;
+        let at = place * width;
+        let behind = at + width;
+        let filled = held * width;
+        let old = self.cells;
+        let mut cells = self.cells;
+        copy(&old[behind..filled], &mut cells[at..]);
+        let fewer = held - 1;
         Turn {
             sheet: Sheet {
                 modulus: self.modulus,
                 unknowns: self.unknowns,
-                held: held,
+                held: fewer,
                 cells: cells,
             },
-            entered: Entered::Holds(held),
+            entered: Entered::Holds(fewer),
         }
     }
 }

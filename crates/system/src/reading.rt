@@ -7,6 +7,7 @@ ghost use Rattle.equations.specs.Answer.{andThen};
 ghost use Rattle.elimination.specs.Basis.{pivot};
 ghost use Rattle.tableau.specs.Packed.{rows, triangle};
 ghost use Rattle.system.specs.Model.Reading.{rowsIn, Readable, Laid, readVector, readStep, readSteps, readVectors};
+use crate::limits::LINE;
 use tableau::filling::turn;
 use tableau::substitution::extend;
 
@@ -32,7 +33,7 @@ fn vector_into(basis: &[u32], out: &mut [u32], m: u32, n: usize, i: usize, e: u3
     requires { ⌜ Readable m n (now basis) × (length (now out) ≡ n) × (i ≤ n) × (e < m) ⌝ }
     ensures { λ _. ⌜ now (out .exit) ≡ readVector m n (rowsIn n (now (basis .entry))) i e ⌝ }
 {
-    let mut x = [0u32; 17];
+    let mut x = [0u32; LINE];
     x[i] = e;
     let used = i + 1;
     let size = packed_size(i, n + 1);

@@ -6,6 +6,7 @@ ghost use Rattle.slices.specs.Over.{over};
 ghost use Rattle.equations.specs.Lines.{equationsOf};
 ghost use Rattle.system.specs.Block.{behindHead, writtenOf, answerOf};
 ghost use Rattle.system.specs.Posed.{Posed};
+use crate::limits::ENTRIES;
 use crate::runs::refutation;
 use crate::runs::solution;
 
@@ -13,14 +14,14 @@ use crate::runs::solution;
 pub struct Answer {
     pub head: u32,
     pub len: usize,
-    pub numbers: [u32; 272],
+    pub numbers: [u32; ENTRIES],
 }
 
 pub fn solve(m: u32, n: usize, lines: &[u32]) -> Answer
     requires { ⌜ Posed m n (now lines) ⌝ }
     ensures { λ r. ⌜ r ≡ answerOf m n (equationsOf n (now (lines .entry))) ⌝ }
 {
-    let mut numbers = [0u32; 272];
+    let mut numbers = [0u32; ENTRIES];
     let written = solve_into(m, n, lines, &mut numbers);
     Answer {
         head: written.head,

@@ -12,7 +12,7 @@ use lib.ListN.{length, drop, length-drop}
 use Rattle.equations.proofs.Truth.{true-or-false}
 use Rattle.sheet.specs.declared.Sheet.{Sheet}
 use Rattle.sheet.specs.Record.{ledgerOf, fresh}
-use Rattle.tape.specs.Lines.{leftOverLine}
+use Rattle.tape.specs.Output.{leftOverLine}
 use Rattle.tape.specs.Reader.{linesOn, firstOn, stepOf}
 use Rattle.tape.specs.Printing.{Prints, ends, calls, PrintsOnce, PrintsLines}
 use Rattle.tape.proofs.Remaining.{remaining, lines-remaining, used-some, remaining-step, remaining-end}

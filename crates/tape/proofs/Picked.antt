@@ -1,81 +1,58 @@
--- The call that a first word's kind picks, and the call that is read from the rest of a tape.
---   picks-open and so on   by each kind; picks-few and picks-none by those that have no meaning
---   picked                 what is told of one call is told of the call that is picked
+-- The call that is picked, and the call that is read from the rest of a tape.
+--   picks-few, picks-none  the kinds that have no meaning pick nothing
+--   picked-told            what is told of one call is told of the call that is picked
+--   next-picks, next-wants what the first word picks, and how many words that takes
 --   next-call, next-used   the call read, and the bytes of its words
 --   stepped                the reader's step, put together
 use mathlib.Core.Path.{_≡_, refl, sym, ap, _∙_}
-use mathlib.Core.Bool.{cond}
 use mathlib.Core.Logic.{_⊎_, ⊎-elim}
 use mathlib.Core.List.{List}
 use Prim.Native.Nat.{ℕ, _*_, _/_, _≤_, min}
-use lib.Dec.{eqb}
 use borrow.Author.Tests.{ne-eqb}
 use lib.ListN.{length, getD, length-take}
 use Rattle.slices.specs.Over.{over}
-use Rattle.words.specs.Words.{kindOf}
-use Rattle.ledger.specs.Ledger.{Ledger}
-use Rattle.ledger.specs.Calls.{Call, opens, adds, marks, strikesFromTape, answersFromTape, meaningless}
+use Rattle.words.specs.declared.unpacking.Word.{Word}
+use Rattle.words.specs.Words.{wordOf}
+use Rattle.ledger.specs.Ledger.{Ledger, unknownsOf}
+use Rattle.ledger.specs.Calls.{Call}
 use Rattle.sheet.specs.declared.Sheet.{Sheet}
 use Rattle.sheet.specs.Record.{ledgerOf}
-use Rattle.tape.specs.declared.telling.Told.{Told}
+use Rattle.tape.specs.declared.printing.Told.{Told}
 use Rattle.tape.specs.declared.calling.Step.{Step}
-use Rattle.tape.specs.Bytes.{wordAt, wordsWithin, wordsIn}
-use Rattle.tape.specs.FirstCall.{wanted, callFrom, firstCall}
-use Rattle.tape.specs.Reader.{linesOn, toldOf, firstOn, takenFrom, stepOf}
-use Rattle.tape.proofs.Bytes.{words-length, words-first, words-taken}
+use Rattle.tape.specs.declared.picking.Pick.{Pick}
+use Rattle.tape.specs.declared.picking.Pick.the-variants.{Nothing}
+use Rattle.tape.specs.Bytes.{wordAt, wordsWithin, wordsOn}
+use Rattle.tape.specs.FirstCall.{pickOf, wantedBy, wanted, callBy, firstCall}
+use Rattle.tape.specs.Reader.{linesOn, firstOn, takenFrom, stepOf}
+use Rattle.tape.specs.Model.Handed.{toldOf}
+use Rattle.tape.proofs.OnTape.{words-length, words-first, words-taken}
 
--- the call as the first word's kind j picks it
-abbrev byKind : ℕ → List ℕ → ℕ → Call
-byKind w ws j =
-    cond (eqb j 1) (opens ws)
-    (cond (eqb j 3) (adds ws)
-    (cond (eqb j 5) (marks ws)
-    (cond (eqb j 8) (strikesFromTape w) (cond (eqb j 9) (answersFromTape w) (meaningless w)))))
+pub picks-few : (k : ℕ) → (k ≡ 0) ⊎ ((k ≡ 2) ⊎ (k ≡ 4)) → Nothing ≡ pickOf k
+picks-few k few = ⊎-elim (λ is. rw is) (⊎-elim (λ is. rw is) (λ is. rw is)) few
 
-module _ (w : ℕ) (ws : List ℕ) where
-  pub picks-open : kindOf w ≡ 1 → opens ws ≡ callFrom w ws
-  picks-open is = ap (byKind w ws) (sym is)
+pub picks-none : (k : ℕ) → (k ≡ 1 → ⊥) → (k ≡ 3 → ⊥) → (k ≡ 5 → ⊥) → (k ≡ 8 → ⊥) → (k ≡ 9 → ⊥) → Nothing ≡ pickOf k
+picks-none k not-1 not-3 not-5 not-8 not-9 =
+    rw (ne-eqb k 1 not-1, ne-eqb k 3 not-3, ne-eqb k 5 not-5, ne-eqb k 8 not-8, ne-eqb k 9 not-9)
 
-  pub picks-add : kindOf w ≡ 3 → adds ws ≡ callFrom w ws
-  picks-add is = ap (byKind w ws) (sym is)
-
-  pub picks-mark : kindOf w ≡ 5 → marks ws ≡ callFrom w ws
-  picks-mark is = ap (byKind w ws) (sym is)
-
-  pub picks-strike : kindOf w ≡ 8 → strikesFromTape w ≡ callFrom w ws
-  picks-strike is = ap (byKind w ws) (sym is)
-
-  pub picks-answer : kindOf w ≡ 9 → answersFromTape w ≡ callFrom w ws
-  picks-answer is = ap (byKind w ws) (sym is)
-
-  pub picks-few : (k : ℕ) → k ≡ kindOf w → (k ≡ 0) ⊎ ((k ≡ 2) ⊎ (k ≡ 4)) → meaningless w ≡ callFrom w ws
-  picks-few k same few = ⊎-elim (λ is. of 0 refl is) (⊎-elim (λ is. of 2 refl is) (λ is. of 4 refl is)) few
-    where
-      of : (j : ℕ) → byKind w ws j ≡ meaningless w → k ≡ j → meaningless w ≡ callFrom w ws
-      of j none is = sym none ∙ ap (byKind w ws) (sym is ∙ same)
-
-  pub picks-none : (kindOf w ≡ 1 → ⊥) → (kindOf w ≡ 3 → ⊥) → (kindOf w ≡ 5 → ⊥) → (kindOf w ≡ 8 → ⊥) → (kindOf w ≡ 9 → ⊥)
-      → meaningless w ≡ callFrom w ws
-  picks-none not-1 not-3 not-5 not-8 not-9 =
-      rw (
-        ne-eqb (kindOf w) 1 not-1,
-        ne-eqb (kindOf w) 3 not-3,
-        ne-eqb (kindOf w) 5 not-5,
-        ne-eqb (kindOf w) 8 not-8,
-        ne-eqb (kindOf w) 9 not-9,
-      )
-
-pub picked : (s : Sheet) {c d : Call} (old : List ℕ) {r : Told} {new : List ℕ} → c ≡ d → r ≡ toldOf s c
+pub picked-told : (s : Sheet) {c d : Call} (old : List ℕ) {r : Told} {new : List ℕ} → c ≡ d → r ≡ toldOf s c
     → new ≡ over (linesOn s c) old → (r ≡ toldOf s d) × (new ≡ over (linesOn s d) old)
-picked s old same told front = (told ∙ ap (toldOf s) same, front ∙ ap (λ (e : Call). over (linesOn s e) old) same)
+picked-told s old same told front = (told ∙ ap (toldOf s) same, front ∙ ap (λ (e : Call). over (linesOn s e) old) same)
 
 -- ---- the first call on the rest of a tape
 
+pub next-picks : (first : ℕ) {head : Word} {pick : Pick} → head ≡ wordOf first → pick ≡ pickOf (head .kind)
+    → pick ≡ pickOf (wordOf first .kind)
+next-picks first is picks = picks ∙ ap (λ (w : Word). pickOf (w .kind)) is
+
+pub next-wants : (l : Ledger) (first : ℕ) {head : Word} {pick : Pick} {n want : ℕ} → head ≡ wordOf first
+    → pick ≡ pickOf (head .kind) → n ≡ unknownsOf l → want ≡ wantedBy n pick (head .number) → want ≡ wanted l first
+next-wants l first is picks same wants = wants ∙ rw (picks, same, is)
+
 module _ (l : Ledger) (rest : List ℕ) (whole : 4 ≤ length rest) (first want count : ℕ) (taken : List ℕ)
     (is : first ≡ wordAt rest) (wants : want ≡ wanted l first) (few : count ≡ min want (length rest / 4))
-    (words : taken ≡ wordsWithin count rest) where
+    (words : taken ≡ wordsWithin count rest) {pick : Pick} (picks : pick ≡ pickOf (wordOf first .kind)) where
   abbrev head : ℕ
-  head = getD (wordsIn rest) 0 0
+  head = getD (wordsOn rest) 0 0
 
   head-is : first ≡ head
   head-is = is ∙ sym (words-first rest whole)
@@ -83,23 +60,23 @@ module _ (l : Ledger) (rest : List ℕ) (whole : 4 ≤ length rest) (first want 
   want-is : want ≡ wanted l head
   want-is = wants ∙ ap (wanted l) head-is
 
-  taken-is : taken ≡ takenFrom l (wordsIn rest)
+  taken-is : taken ≡ takenFrom l (wordsOn rest)
   taken-is =
       words ∙ ap (λ (k : ℕ). wordsWithin k rest) (few ∙ ap (λ (k : ℕ). min k (length rest / 4)) want-is)
       ∙ sym (words-taken (wanted l head) rest)
 
-  pub next-call : callFrom first taken ≡ firstCall l (wordsIn rest)
+  pub next-call : callBy pick first taken ≡ firstCall l (wordsOn rest)
   unfolding firstCall
-  next-call = rw (taken-is, head-is)
+  next-call = rw (taken-is, picks, head-is)
 
-  pub next-used : 4 * count ≡ 4 * length (takenFrom l (wordsIn rest))
+  pub next-used : 4 * count ≡ 4 * length (takenFrom l (wordsOn rest))
   next-used =
       ap (λ (k : ℕ). 4 * k)
       (few ∙ ap (λ (k : ℕ). min k (length rest / 4)) want-is ∙ ap (min (wanted l head)) (sym (words-length rest))
-      ∙ sym (length-take (wanted l head) (wordsIn rest)))
+      ∙ sym (length-take (wanted l head) (wordsOn rest)))
 
 pub stepped : (s : Sheet) (rest old : List ℕ) {c : Call} {told : Told} {used : ℕ} {new : List ℕ}
-    → c ≡ firstOn s rest → used ≡ 4 * length (takenFrom (ledgerOf s) (wordsIn rest)) → told ≡ toldOf s c
+    → c ≡ firstOn s rest → used ≡ 4 * length (takenFrom (ledgerOf s) (wordsOn rest)) → told ≡ toldOf s c
     → new ≡ over (linesOn s c) old
     → (_≡_ {A = Step} (record { sheet = told .sheet; used = used; written = told .written }) (stepOf s rest))
     × (new ≡ over (linesOn s (firstOn s rest)) old)

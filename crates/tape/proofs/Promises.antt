@@ -1,7 +1,6 @@
 -- The promises of specs/Promises.antt, kept: an answer's block, cut into vectors again, is the start and the steps, and the line of a
 -- mark tells whether the claim passes.
 use mathlib.Core.Path.{_≡_, refl, sym, ap, ap₂, _∙_}
-use mathlib.Core.Bool.{cond}
 use mathlib.Core.List.{List, [], _∷_, _++_, append-assoc, flatten}
 use mathlib.Core.Option.{some}
 use Prim.Native.Nat.{ℕ, _<_}
@@ -12,8 +11,7 @@ use lib.Seq.{take-at, drop-at}
 use Rattle.equations.specs.Equation.{Equation}
 use Rattle.equations.specs.Answer.{startOf, stepsOf}
 use Rattle.equations.specs.Multipliers.{refutes}
-use Rattle.equations.specs.Claim.{passes}
-use Rattle.equations.proofs.Truth.{cond-tells}
+use Rattle.equations.specs.declared.Mark.the-variants.{Pass, Fail}
 use Rattle.equations.proofs.Vectors.{vector-length}
 use Rattle.equations.proofs.Answer.{start-solves}
 use Rattle.equations.proofs.Listed.{steps-vectors}
@@ -21,19 +19,20 @@ use Rattle.equations.proofs.Promises.{no-start}
 use Rattle.system.specs.Claims.{vectorsWithin}
 use Rattle.system.proofs.Block.{block-some, block-none}
 use Rattle.system.proofs.Chunks.{within-flatten}
-use Rattle.words.specs.Words.{numberOf}
+use Rattle.words.specs.Words.{wordOf, wordsIn}
 use Rattle.ledger.specs.Ledger.{Ledger, unopened, opened}
 use Rattle.ledger.specs.Allowed.{Allowed}
 use Rattle.ledger.specs.Shapes.{claimFrom}
-use Rattle.ledger.specs.Calls.{Call, marks, answersFromTape}
+use Rattle.ledger.specs.Marking.{claimMark}
+use Rattle.ledger.specs.Calls.{Call, marks, answersFromTape, queries}
 use Rattle.ledger.specs.Questions.{plain}
 use Rattle.ledger.specs.History.{enter, ledgerFrom, ledger}
 use Rattle.ledger.proofs.Refusals.{answers-word-plain}
 use Rattle.ledger.proofs.Sound.{ledger-sound}
 use Rattle.sheet.specs.Promises.{NothingSolves, WellFormed}
-use Rattle.sheet.proofs.Marks.{well-accepted, well-described}
+use Rattle.sheet.proofs.Marks.{well-accepted, mark-tells}
 use Rattle.tape.specs.Text.{line, lineOf}
-use Rattle.tape.specs.Lines.{blockLines, stepLines, answerLines, callLines, linesFrom}
+use Rattle.tape.specs.Output.{blockLines, stepLines, markLine, answerLines, callLines, linesFrom}
 use Rattle.tape.specs.Promises.{CallPrinted, AnswerPrinted, AnswersPrinted, MarkPrinted, MarksPrinted}
 use Rattle.tape.proofs.Told.{accepted-told}
 
@@ -52,7 +51,7 @@ call-from l (b ∷ before) rest c =
 pub call-printed : CallPrinted
 call-printed = call-from unopened
 
-pass-or-fail : line "pass" [] ≡ line "fail" [] → ⊥
+pass-or-fail : markLine Pass ≡ markLine Fail → ⊥
 unfolding lineOf
 pass-or-fail same = omega (arith, ap (λ (bytes : List ℕ). getD bytes 0 0) same)
 
@@ -80,26 +79,25 @@ module _ (m n : ℕ) (es : List Equation) where
         let b = block-none m n es positive (allowed .shaped) (no-start m n es .1 nothing) in
         (b .0, b .2, ap (blockLines n) (b .1))
 
-    answer-is : (w : ℕ) → T (plain w) → callLines (ledger calls) (answersFromTape w) ≡ answerLines (opened m n es)
+    answer-is : (w : ℕ) → T (plain w) → callLines (ledger calls) (queries (answersFromTape w)) ≡ answerLines (opened m n es)
     answer-is w zero =
-        ap (λ (l : Ledger). callLines l (answersFromTape w)) holds
-        ∙ sym (accepted-told (opened m n es) (answersFromTape w)
-        (answers-word-plain (opened m n es) refl w (eqb→eq (numberOf w) 0 zero)))
+        ap (λ (l : Ledger). callLines l (queries (answersFromTape w))) holds
+        ∙ sym (accepted-told (opened m n es) (queries (answersFromTape w))
+        (answers-word-plain (opened m n es) refl w (eqb→eq (wordOf w .number) 0 zero)))
 
     mark-is : (ws : List ℕ) → WellFormed m n ws
-        → callLines (ledger calls) (marks ws) ≡ cond (passes m n es (claimFrom n ws)) (line "pass" []) (line "fail" [])
+        → callLines (ledger calls) (queries (marks ws)) ≡ markLine (claimMark (opened m n es) ws)
     mark-is ws well =
-        ap (λ (l : Ledger). callLines l (marks ws)) holds
-        ∙ sym (accepted-told (opened m n es) (marks ws) (well-accepted m n es ws well))
+        ap (λ (l : Ledger). callLines l (queries (marks ws))) holds
+        ∙ sym (accepted-told (opened m n es) (queries (marks ws)) (well-accepted m n es ws well))
 
-    answer-printed : (w : ℕ) → T (plain w) → AnswerPrinted m n es (callLines (ledger calls) (answersFromTape w))
+    answer-printed : (w : ℕ) → T (plain w) → AnswerPrinted m n es (callLines (ledger calls) (queries (answersFromTape w)))
     answer-printed w zero = rw (answer-is w zero) (record { solution = solution-printed; refutation = refutation-printed })
 
-    mark-printed : (ws : List ℕ) → WellFormed m n ws → MarkPrinted m n es (claimFrom n ws) (callLines (ledger calls) (marks ws))
+    mark-printed : (ws : List ℕ) → WellFormed m n ws
+        → MarkPrinted m n es (claimFrom n (wordsIn ws)) (callLines (ledger calls) (queries (marks ws)))
     mark-printed ws well =
-        let both =
-        cond-tells (line "pass" []) (line "fail" []) pass-or-fail (passes m n es (claimFrom n ws))
-        (well-described m n es positive ws well) in
+        let both = mark-tells m n es positive ws well markLine pass-or-fail in
         rw (mark-is ws well) (record { pass = both .0; fail = both .1 })
 
 pub answers-printed : AnswersPrinted

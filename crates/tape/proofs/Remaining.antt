@@ -17,16 +17,16 @@ use Rattle.sheet.specs.declared.Sheet.{Sheet}
 use Rattle.sheet.specs.Record.{fresh, ledgerOf}
 use Rattle.sheet.specs.History.{left, sheetFrom}
 use Rattle.sheet.proofs.History.{left-reads, after-reads}
-use Rattle.tape.specs.Bytes.{wordsIn}
+use Rattle.tape.specs.Bytes.{wordsOn}
 use Rattle.tape.specs.FirstCall.{wanted, behindFirst}
 use Rattle.tape.specs.Counted.Calls.{wanted-some}
 use Rattle.tape.specs.Calls.{callsOn, calls-none, calls-first}
-use Rattle.tape.specs.Lines.{callLines, linesFrom, leftOverLine, mostBytes, lines}
+use Rattle.tape.specs.Output.{callLines, linesFrom, leftOverLine, mostBytes, lines}
 use Rattle.tape.specs.Reader.{linesOn, firstOn, takenFrom}
-use Rattle.tape.proofs.Bytes.{words-length, words-behind}
+use Rattle.tape.proofs.OnTape.{words-length, words-behind}
 
 abbrev pub remaining : Ledger → List ℕ → List ℕ
-remaining l rest = linesFrom l (callsOn l (wordsIn rest)) ++ leftOverLine rest
+remaining l rest = linesFrom l (callsOn l (wordsOn rest)) ++ leftOverLine rest
 
 pub fresh-unopened : ledgerOf fresh ≡ unopened
 unfolding sheetFrom ledgerFrom
@@ -45,25 +45,25 @@ drop-taken (suc c) [] = refl
 drop-taken (suc c) (w ∷ ws) = drop-taken c ws
 
 abbrev pub usedBy : Ledger → List ℕ → ℕ
-usedBy l rest = 4 * length (takenFrom l (wordsIn rest))
+usedBy l rest = 4 * length (takenFrom l (wordsOn rest))
 
 module _ (l : Ledger) (rest : List ℕ) where
-  taken-count : length (takenFrom l (wordsIn rest)) ≡ min (wanted l (getD (wordsIn rest) 0 0)) (length rest / 4)
+  taken-count : length (takenFrom l (wordsOn rest)) ≡ min (wanted l (getD (wordsOn rest) 0 0)) (length rest / 4)
   taken-count =
-      length-take (wanted l (getD (wordsIn rest) 0 0)) (wordsIn rest)
-      ∙ ap (min (wanted l (getD (wordsIn rest) 0 0))) (words-length rest)
+      length-take (wanted l (getD (wordsOn rest) 0 0)) (wordsOn rest)
+      ∙ ap (min (wanted l (getD (wordsOn rest) 0 0))) (words-length rest)
 
   pub used-some : 4 ≤ length rest → 4 ≤ usedBy l rest
-  used-some whole = omega (arith, taken-count, wanted-some l (getD (wordsIn rest) 0 0))
+  used-some whole = omega (arith, taken-count, wanted-some l (getD (wordsOn rest) 0 0))
 
   pub used-fits : usedBy l rest ≤ length rest
   used-fits = omega (arith, taken-count)
 
-  behind-used : wordsIn (drop (usedBy l rest) rest) ≡ behindFirst l (wordsIn rest)
+  behind-used : wordsOn (drop (usedBy l rest) rest) ≡ behindFirst l (wordsOn rest)
   unfolding behindFirst
   behind-used =
-      words-behind (length (takenFrom l (wordsIn rest))) rest
-      ∙ drop-taken (wanted l (getD (wordsIn rest) 0 0)) (wordsIn rest)
+      words-behind (length (takenFrom l (wordsOn rest))) rest
+      ∙ drop-taken (wanted l (getD (wordsOn rest) 0 0)) (wordsOn rest)
 
   left-over-used : leftOverLine (drop (usedBy l rest) rest) ≡ leftOverLine rest
   left-over-used =
@@ -79,12 +79,12 @@ remaining-step s rest whole =
     let l = ledgerOf s in
     let c = firstOn s rest in
     let after = drop (usedBy l rest) rest in
-    let some : 0 < length (wordsIn rest) = omega (arith, words-length rest) in
-    ap (λ (calls : List Call). linesFrom l calls ++ leftOverLine rest) (calls-first l (wordsIn rest) some)
-    ∙ append-assoc (callLines l c) (linesFrom (enter l c) (callsOn (enter l c) (behindFirst l (wordsIn rest)))) (leftOverLine rest)
+    let some : 0 < length (wordsOn rest) = omega (arith, words-length rest) in
+    ap (λ (calls : List Call). linesFrom l calls ++ leftOverLine rest) (calls-first l (wordsOn rest) some)
+    ∙ append-assoc (callLines l c) (linesFrom (enter l c) (callsOn (enter l c) (behindFirst l (wordsOn rest)))) (leftOverLine rest)
     ∙ ap (λ (ws : List ℕ). callLines l c ++ (linesFrom (enter l c) (callsOn (enter l c) ws) ++ leftOverLine rest))
     (sym (behind-used l rest))
-    ∙ ap (λ (z : List ℕ). callLines l c ++ (linesFrom (enter l c) (callsOn (enter l c) (wordsIn after)) ++ z))
+    ∙ ap (λ (z : List ℕ). callLines l c ++ (linesFrom (enter l c) (callsOn (enter l c) (wordsOn after)) ++ z))
     (sym (left-over-used l rest))
     ∙ ap (λ (l′ : Ledger). callLines l c ++ remaining l′ after) (sym (left-reads s c))
 
@@ -96,5 +96,5 @@ pub remaining-end : (l : Ledger) (rest : List ℕ) → length rest < 4 → remai
 unfolding linesFrom
 remaining-end l rest short =
     ap (λ (ws : List ℕ). linesFrom l (callsOn l ws) ++ leftOverLine rest)
-    (no-words (wordsIn rest) (omega (arith, words-length rest)))
+    (no-words (wordsOn rest) (omega (arith, words-length rest)))
     ∙ ap (λ (calls : List Call). linesFrom l calls ++ leftOverLine rest) (calls-none l)

@@ -17,7 +17,7 @@ use Rattle.sheet.specs.declared.Sheet.{Sheet}
 use Rattle.sheet.specs.Record.{ledgerOf}
 use Rattle.sheet.specs.History.{left}
 use Rattle.tape.specs.declared.calling.Step.{Step}
-use Rattle.tape.specs.Lines.{refusedLine, leftOverLine}
+use Rattle.tape.specs.Output.{refusedLine, leftOverLine}
 use Rattle.tape.specs.Reader.{linesOn, firstOn, stepOf}
 use Rattle.tape.proofs.Remaining.{remaining, usedBy, used-some, used-fits, remaining-step}
 

@@ -3,22 +3,22 @@
 --   step-part                 the part of the numbers that is the next step
 --   rows-fit                  there are numbers for it
 --   head-fits                 there are numbers for all vectors that the head counts
---   block-none, block-some    the lines of a block without solution, and of one with
---   block-length, -written    the latter as they are counted and written
+--   block-none                the lines of a block without solution
+--   block-length, -written    those of one with a solution, as they are counted and written
 use mathlib.Core.Path.{_≡_, refl, sym, ap, _∙_}
 use mathlib.Core.List.{List, [], _∷_, _++_, append-nil, append-assoc}
 use Prim.Native.Nat.{ℕ, zero, suc, _+_, _-_, _*_, _≤_, _<_}
 use native.Mathlib.Nat.{mul-le-mul, mul-le-mul-right}
 use native.Mathlib.Numerals.{add-one}
 use native.Mathlib.Omega.{arith}
-use lib.ListN.{length, take, drop, getD, length-append}
+use lib.ListN.{length, take, drop, length-append}
 use lib.Seq.{drop-drop}
 use Rattle.slices.specs.Over.{over}
 use Rattle.slices.proofs.Parts.{lent, putBack, lent-is}
 use Rattle.slices.proofs.Over.{over-behind}
 use Rattle.system.specs.Claims.{vectorsWithin}
 use Rattle.tape.specs.Text.{line}
-use Rattle.tape.specs.Lines.{stepLines, blockLines}
+use Rattle.tape.specs.Output.{stepLines, blockLines}
 
 steps-append : (vs ws : List (List ℕ)) → stepLines (vs ++ ws) ≡ stepLines vs ++ stepLines ws
 steps-append [] ws = refl
@@ -52,45 +52,35 @@ pub rows-few : (c n : ℕ) → c ≤ 16 → n ≤ 16 → c * n ≤ 256
 rows-few c n few small = mul-le-mul {n₁ = c} {m₁ = n} {n₂ = 16} {m₂ = 16} few small
 
 -- what a head of h vectors says of the numbers behind it
-pub head-fits : (h n size : ℕ) → (h ≡ 0 → ⊥) → h * n < size → (h - 1) * n + (n + 1) ≤ size
+pub head-fits : (h n size : ℕ) → (h ≡ 0 → ⊥) → h * n ≤ size → (h - 1) * n + n ≤ size
 head-fits zero n size some fits = absurd (some refl)
 head-fits (suc h) n size some fits =
     let same : suc h - 1 ≡ h = omega arith in
     omega (arith, ap (λ (k : ℕ). k * n) same)
 
-pub block-none : (n : ℕ) (block : List ℕ) → 0 < length block → getD block 0 0 ≡ 0 → blockLines n block ≡ line "none" (drop 1 block)
-block-none n [] some none = absurd (omega arith)
-block-none n (zero ∷ ks) some none = refl
-block-none n (suc k ∷ xs) some none = absurd (omega arith)
+pub block-none : (n k : ℕ) (xs : List ℕ) → k ≡ 0 → line "none" xs ≡ blockLines n (k ∷ xs)
+block-none n k xs none = rw none
 
-pub block-some : (n : ℕ) (block : List ℕ) → 0 < length block → (getD block 0 0 ≡ 0 → ⊥)
-    → blockLines n block
-    ≡ line "from" (take n (drop 1 block)) ++ stepLines (vectorsWithin (getD block 0 0 - 1) n (drop (n + 1) block))
-block-some n [] some head = absurd (omega arith)
-block-some n (zero ∷ ks) some head = absurd (head refl)
-block-some n (suc k ∷ xs) some head =
-    let same : k ≡ suc k - 1 = omega arith in
-    rw (add-one, ← same)
+block-some : (n k : ℕ) (xs : List ℕ) → (k ≡ 0 → ⊥)
+    → blockLines n (k ∷ xs) ≡ line "from" (take n xs) ++ stepLines (vectorsWithin (k - 1) n (drop n xs))
+block-some n zero xs some = absurd (some refl)
+block-some n (suc k) xs some = let same : k ≡ suc k - 1 = omega arith in rw (← same)
 
 -- the two lines of work put together: the starting vector's line, then the steps' lines in the part behind it
-module _ (n : ℕ) (block old : List ℕ) (some : 0 < length block) (head : getD block 0 0 ≡ 0 → ⊥) where
+module _ (n k : ℕ) (xs old : List ℕ) (some : k ≡ 0 → ⊥) where
   abbrev first : List ℕ
-  first = line "from" (take (n + 1 - 1) (drop 1 block))
+  first = line "from" (take n xs)
 
   abbrev behind : List ℕ
-  behind = stepLines (vectorsWithin (getD block 0 0 - 1) n (lent (n + 1) block))
+  behind = stepLines (vectorsWithin (k - 1) n (lent n xs))
 
-  both : first ++ behind ≡ blockLines n block
+  both : first ++ behind ≡ blockLines n (k ∷ xs)
   both =
-      let same : n + 1 - 1 ≡ n = omega arith in
-      ap (λ (k : ℕ). line "from" (take k (drop 1 block)) ++ behind) same
-      ∙ ap (λ (rest : List ℕ). line "from" (take n (drop 1 block)) ++ stepLines (vectorsWithin (getD block 0 0 - 1) n rest))
-      (lent-is (n + 1) block)
-      ∙ sym (block-some n block some head)
+      ap (λ (rest : List ℕ). first ++ stepLines (vectorsWithin (k - 1) n rest)) (lent-is n xs) ∙ sym (block-some n k xs some)
 
-  pub block-length : {k j : ℕ} → k ≡ length first → j ≡ length behind → k + j ≡ length (blockLines n block)
-  block-length {k} {j} is-k is-j = omega (arith, ap length both, length-append first behind)
+  pub block-length : {i j : ℕ} → i ≡ length first → j ≡ length behind → i + j ≡ length (blockLines n (k ∷ xs))
+  block-length {i} {j} is-i is-j = omega (arith, ap length both, length-append first behind)
 
-  pub block-written : (k : ℕ) {new part : List ℕ} → k ≡ length first → new ≡ over first old → part ≡ over behind (lent k new)
-      → putBack k new part ≡ over (blockLines n block) old
-  block-written k is front more = over-behind k first behind old (sym is) front more ∙ ap (λ (lines : List ℕ). over lines old) both
+  pub block-written : (i : ℕ) {new part : List ℕ} → i ≡ length first → new ≡ over first old → part ≡ over behind (lent i new)
+      → putBack i new part ≡ over (blockLines n (k ∷ xs)) old
+  block-written i is front more = over-behind i first behind old (sym is) front more ∙ ap (λ (lines : List ℕ). over lines old) both

@@ -4,11 +4,11 @@
 --   said-holds        a call that says how many are held is accepted
 --   said-refused      one that says a refusal prints it
 --   accepted-told     an accepted call prints its own lines
---   opening-two       an accepted opening has two words
+--   opened-told       an accepted opening prints what is then seen of the sheet
 --   marked-told       the line of what a mark says is the line of the call
 --   meaningless-told  a word that picks no call prints refusal 1
 --   told              a call told: its sheet, the length of its lines, and the lines
-use mathlib.Core.Path.{_≡_, refl, sym, ap, _∙_}
+use mathlib.Core.Path.{_≡_, refl, sym, ap, ap₂, _∙_}
 use mathlib.Core.Bool.{Bool, true, false, cond}
 use mathlib.Core.List.{List, [], _∷_}
 use Prim.Native.Nat.{ℕ, _≤_}
@@ -17,31 +17,32 @@ use lib.Dec.{eqb}
 use borrow.Author.Tests.{eqb-true}
 use lib.ListN.{length}
 use Rattle.slices.specs.Over.{over}
-use Rattle.equations.proofs.Truth.{true-of}
-use Rattle.ledger.specs.Ledger.{Ledger, equationsIn, mostEquations}
-use Rattle.ledger.specs.Shapes.{isOpening}
-use Rattle.ledger.specs.Marking.{claimPasses}
-use Rattle.ledger.specs.Calls.{Call, opens, marks, meaningless}
+use Rattle.equations.specs.declared.Mark.{Mark}
+use Rattle.ledger.specs.Ledger.{Ledger, modulusOf, unknownsOf, equationsIn, mostEquations}
+use Rattle.ledger.specs.Marking.{claimMark}
+use Rattle.ledger.specs.Calls.{Call, Entry, opens, marks, meaningless, enters, queries}
 use Rattle.ledger.specs.Questions.{refusalOf}
 use Rattle.ledger.specs.History.{enter}
-use Rattle.ledger.proofs.Shapes.{opening-length}
-use Rattle.ledger.proofs.Questions.{accepted-yes}
+use Rattle.ledger.proofs.Effects.{enter-accepted}
+use Rattle.asking.specs.declared.Seen.{Seen}
+use Rattle.asking.specs.Sees.{Sees}
 use Rattle.sheet.specs.declared.Sheet.{Sheet}
 use Rattle.sheet.specs.declared.Turn.{Turn}
 use Rattle.sheet.specs.declared.Entered.the-variants.{Holds}
 use Rattle.sheet.specs.declared.Entered.the-variants.{Refused as Entered·Refused}
 use Rattle.sheet.specs.declared.marking.Marked.{Marked}
-use Rattle.sheet.specs.declared.marking.Marked.the-variants.{Pass, Fail}
+use Rattle.sheet.specs.declared.marking.Marked.the-variants.{Gets}
 use Rattle.sheet.specs.declared.marking.Marked.the-variants.{Refused as Marked·Refused}
 use Rattle.sheet.specs.Record.{ledgerOf}
-use Rattle.sheet.specs.Calls.{Enters, enteredOf, turnOf, markedOf}
+use Rattle.sheet.specs.Calls.{enteredOf, turnOf, markedOf}
 use Rattle.sheet.specs.History.{left}
 use Rattle.sheet.proofs.Few.{equations-few}
 use Rattle.sheet.proofs.History.{left-reads}
-use Rattle.tape.specs.declared.telling.Told.{Told}
+use Rattle.tape.specs.declared.printing.Told.{Told}
 use Rattle.tape.specs.Text.{line, lineOf}
-use Rattle.tape.specs.Lines.{refusedLine, acceptedLines, heldAfter, callLines}
-use Rattle.tape.specs.Reader.{enteredLine, heldBy, markedLine, linesOn, toldOf}
+use Rattle.tape.specs.Output.{refusedLine, markLine, acceptedLines, heldAfter, callLines}
+use Rattle.tape.specs.Reader.{linesOn}
+use Rattle.tape.specs.Model.Handed.{enteredLine, heldBy, markedLine, toldOf}
 
 holds-or-refused : (name : List ℕ) (b : Bool) (k r : ℕ)
     → enteredLine name (cond b (Holds k) (Entered·Refused r)) ≡ cond b (lineOf name (k ∷ [])) (refusedLine r)
@@ -52,66 +53,69 @@ held-or-none : (b : Bool) (k r : ℕ) → heldBy (cond b (Holds k) (Entered·Ref
 held-or-none true k r = omega arith
 held-or-none false k r = omega arith
 
-passes-or-fails : (b right : Bool) (r : ℕ)
-    → markedLine (cond b (cond right Pass Fail) (Marked·Refused r))
-    ≡ cond b (cond right (line "pass" []) (line "fail" [])) (refusedLine r)
-passes-or-fails true true r = refl
-passes-or-fails true false r = refl
-passes-or-fails false right r = refl
+gets-or-refused : (b : Bool) (mark : Mark) (r : ℕ)
+    → markedLine (cond b (Gets mark) (Marked·Refused r)) ≡ cond b (markLine mark) (refusedLine r)
+gets-or-refused true mark r = refl
+gets-or-refused false mark r = refl
 
-module _ (s : Sheet) {c : Call} (e : Enters c) {turn : Turn} (is : turn ≡ turnOf s e) where
-  pub entered-told : (name : List ℕ) → acceptedLines (ledgerOf s) c ≡ lineOf name (heldAfter (ledgerOf s) c)
-      → enteredLine name (turn .entered) ≡ linesOn s c
+module _ (s : Sheet) (e : Entry) {turn : Turn} (is : turn ≡ turnOf s e) where
+  pub entered-told : (name : List ℕ) → acceptedLines (ledgerOf s) (enters e) ≡ lineOf name (heldAfter (ledgerOf s) e)
+      → enteredLine name (turn .entered) ≡ linesOn s (enters e)
   unfolding turnOf enteredOf callLines
   entered-told name accepted =
-      rw (is, accepted) (holds-or-refused name (eqb (refusalOf (ledgerOf s) c) 0) _ (refusalOf (ledgerOf s) c))
+      rw (is, accepted) (holds-or-refused name (eqb (refusalOf (ledgerOf s) (enters e)) 0) _ (refusalOf (ledgerOf s) (enters e)))
 
   pub held-few : heldBy (turn .entered) ≤ mostEquations
   unfolding turnOf enteredOf
   held-few =
-      let few = equations-few (left s c) in
-      let same = ap (λ (l : Ledger). length (equationsIn l)) (left-reads s c) in
-      let said = held-or-none (eqb (refusalOf (ledgerOf s) c) 0) (length (equationsIn (enter (ledgerOf s) c))) (refusalOf (ledgerOf s) c) in
+      let few = equations-few (left s (enters e)) in
+      let same = ap (λ (l : Ledger). length (equationsIn l)) (left-reads s (enters e)) in
+      let said = held-or-none (eqb (refusalOf (ledgerOf s) (enters e)) 0) (length (equationsIn (enter (ledgerOf s) (enters e)))) (refusalOf (ledgerOf s) (enters e)) in
       rw is (omega arith)
 
   -- by what it says, an accepted call is told from a refused one
-  pub said-holds : {k : ℕ} → turn .entered ≡ Holds k → refusalOf (ledgerOf s) c ≡ 0
+  pub said-holds : {k : ℕ} → turn .entered ≡ Holds k → refusalOf (ledgerOf s) (enters e) ≡ 0
   unfolding turnOf enteredOf
-  said-holds {k} said = go (eqb (refusalOf (ledgerOf s) c) 0) refl (sym (ap (λ (t : Turn). t .entered) is) ∙ said)
+  said-holds {k} said = go (eqb (refusalOf (ledgerOf s) (enters e)) 0) refl (sym (ap (λ (t : Turn). t .entered) is) ∙ said)
     where
-      go : (b : Bool) → eqb (refusalOf (ledgerOf s) c) 0 ≡ b
-          → cond b (Holds (length (equationsIn (enter (ledgerOf s) c)))) (Entered·Refused (refusalOf (ledgerOf s) c)) ≡ Holds k
-          → refusalOf (ledgerOf s) c ≡ 0
-      go true e h = eqb-true (refusalOf (ledgerOf s) c) 0 e
-      go false e h = let z : _≡_ {A = ℕ} 0 1 = cc in absurd (omega arith)
+      go : (b : Bool) → eqb (refusalOf (ledgerOf s) (enters e)) 0 ≡ b
+          → cond b (Holds (length (equationsIn (enter (ledgerOf s) (enters e))))) (Entered·Refused (refusalOf (ledgerOf s) (enters e))) ≡ Holds k
+          → refusalOf (ledgerOf s) (enters e) ≡ 0
+      go true is-0 h = eqb-true (refusalOf (ledgerOf s) (enters e)) 0 is-0
+      go false is-0 h = let z : _≡_ {A = ℕ} 0 1 = cc in absurd (omega arith)
 
-  pub said-refused : {r : ℕ} → turn .entered ≡ Entered·Refused r → refusedLine r ≡ linesOn s c
+  pub said-refused : {r : ℕ} → turn .entered ≡ Entered·Refused r → refusedLine r ≡ linesOn s (enters e)
   unfolding turnOf enteredOf callLines
-  said-refused {r} said = go (eqb (refusalOf (ledgerOf s) c) 0) (sym (ap (λ (t : Turn). t .entered) is) ∙ said)
+  said-refused {r} said = go (eqb (refusalOf (ledgerOf s) (enters e)) 0) (sym (ap (λ (t : Turn). t .entered) is) ∙ said)
     where
       go : (b : Bool)
-          → cond b (Holds (length (equationsIn (enter (ledgerOf s) c)))) (Entered·Refused (refusalOf (ledgerOf s) c))
+          → cond b (Holds (length (equationsIn (enter (ledgerOf s) (enters e))))) (Entered·Refused (refusalOf (ledgerOf s) (enters e)))
           ≡ Entered·Refused r
-          → refusedLine r ≡ cond b (acceptedLines (ledgerOf s) c) (refusedLine (refusalOf (ledgerOf s) c))
+          → refusedLine r ≡ cond b (acceptedLines (ledgerOf s) (enters e)) (refusedLine (refusalOf (ledgerOf s) (enters e)))
       go true h = let z : _≡_ {A = ℕ} 0 1 = cc in absurd (omega arith)
-      go false h = let same : r ≡ refusalOf (ledgerOf s) c = cc in ap refusedLine same
+      go false h = let same : r ≡ refusalOf (ledgerOf s) (enters e) = cc in ap refusedLine same
 
 pub accepted-told : (l : Ledger) (c : Call) → refusalOf l c ≡ 0 → acceptedLines l c ≡ callLines l c
 unfolding callLines
 accepted-told l c none = rw none
 
-pub opening-two : (l : Ledger) (ws : List ℕ) → refusalOf l (opens ws) ≡ 0 → length ws ≡ 2
-opening-two l ws none = opening-length ws (true-of (isOpening ws) (accepted-yes l (opens ws) none .0))
+pub opened-told : (s : Sheet) (ws : List ℕ) {after : Sheet} {seen : Seen} → refusalOf (ledgerOf s) (enters (opens ws)) ≡ 0
+    → after ≡ left s (enters (opens ws)) → Sees (ledgerOf after) seen
+    → line "open" (seen .modulus ∷ seen .unknowns ∷ []) ≡ linesOn s (enters (opens ws))
+opened-told s ws {after} none same sees =
+    let reads = ap ledgerOf same ∙ left-reads s (enters (opens ws)) ∙ enter-accepted (ledgerOf s) (opens ws) none in
+    ap₂ (λ (m n : ℕ). line "open" (m ∷ n ∷ [])) (sees .modulus ∙ ap modulusOf reads) (sees .unknowns ∙ ap unknownsOf reads)
+    ∙ accepted-told (ledgerOf s) (enters (opens ws)) none
 
 pub marked-told : (s : Sheet) (ws : List ℕ) {marked : Marked} → marked ≡ markedOf (ledgerOf s) ws
-    → markedLine marked ≡ linesOn s (marks ws)
+    → markedLine marked ≡ linesOn s (queries (marks ws))
 unfolding markedOf callLines
 marked-told s ws is =
     rw is
-    (passes-or-fails (eqb (refusalOf (ledgerOf s) (marks ws)) 0) (claimPasses (ledgerOf s) ws)
-    (refusalOf (ledgerOf s) (marks ws)))
+    (gets-or-refused (eqb (refusalOf (ledgerOf s) (queries (marks ws))) 0) (claimMark (ledgerOf s) ws)
+    (refusalOf (ledgerOf s) (queries (marks ws))))
 
-pub meaningless-told : (s : Sheet) (w : ℕ) → refusedLine 1 ≡ linesOn s (meaningless w)
+pub meaningless-told : (s : Sheet) (w : ℕ) → refusedLine 1 ≡ linesOn s (queries (meaningless w))
 unfolding callLines refusalOf
 meaningless-told s w = refl
 

@@ -18,7 +18,7 @@ use Rattle.slices.proofs.Over.{over-front, over-behind}
 use Rattle.sheet.specs.declared.Sheet.{Sheet}
 use Rattle.sheet.specs.Record.{fresh, ledgerOf}
 use Rattle.tape.specs.declared.calling.Step.{Step}
-use Rattle.tape.specs.Lines.{leftOverLine, mostBytes, lines}
+use Rattle.tape.specs.Output.{leftOverLine, mostBytes, lines}
 use Rattle.tape.specs.Reader.{linesOn, firstOn, stepOf}
 use Rattle.tape.proofs.Remaining.{remaining, lines-remaining, remaining-end}
 use Rattle.tape.proofs.Runs.{step-written, step-remaining, step-counts}

@@ -13,5 +13,5 @@ wordsWithin zero bytes = []
 wordsWithin (suc c) bytes = wordAt bytes ∷ wordsWithin c (drop 4 bytes)
 
 -- all of them; the 1 to 3 bytes left over are no word
-unfoldable pub wordsIn : List ℕ → List ℕ
-wordsIn bytes = wordsWithin (length bytes / 4) bytes
+unfoldable pub wordsOn : List ℕ → List ℕ
+wordsOn bytes = wordsWithin (length bytes / 4) bytes

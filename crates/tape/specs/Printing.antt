@@ -7,7 +7,7 @@ use Prim.Native.Nat.{ℕ, _≤_, _<_}
 use lib.ListN.{length, drop}
 use Rattle.sheet.specs.declared.Sheet.{Sheet}
 use Rattle.sheet.specs.Record.{fresh}
-use Rattle.tape.specs.Lines.{leftOverLine, mostBytes, lines}
+use Rattle.tape.specs.Output.{leftOverLine, mostBytes, lines}
 use Rattle.tape.specs.Reader.{linesOn, firstOn, stepOf}
 
 -- from a sheet and the rest of a tape, the pieces written

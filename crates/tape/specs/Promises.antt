@@ -12,12 +12,13 @@ use Rattle.equations.specs.Multipliers.{refutes}
 use Rattle.equations.specs.Claim.{Claim}
 use Rattle.ledger.specs.Ledger.{unopened, opened}
 use Rattle.ledger.specs.Shapes.{claimFrom}
-use Rattle.ledger.specs.Calls.{Call, marks, answersFromTape}
+use Rattle.words.specs.Words.{wordsIn}
+use Rattle.ledger.specs.Calls.{Call, marks, answersFromTape, queries}
 use Rattle.ledger.specs.Questions.{plain}
 use Rattle.ledger.specs.History.{enter, ledger}
 use Rattle.sheet.specs.Promises.{NothingSolves, WellFormed, DescribesSolutions}
 use Rattle.tape.specs.Text.{line}
-use Rattle.tape.specs.Lines.{stepLines, callLines, linesFrom}
+use Rattle.tape.specs.Output.{stepLines, callLines, linesFrom}
 
 -- "Each call gives a line": for a call behind others, `callLines` of the ledger that those lead to is what a tape prints between
 -- their lines and the lines of the calls behind it.
@@ -40,7 +41,7 @@ pub record AnswerPrinted (m n : ℕ) (es : List Equation) (printed : List ℕ) :
 abbrev pub AnswersPrinted : Type 0
 AnswersPrinted =
     (calls : List Call) (m n : ℕ) (es : List Equation) → ledger calls ≡ opened m n es
-    → (w : ℕ) → T (plain w) → AnswerPrinted m n es (callLines (ledger calls) (answersFromTape w))
+    → (w : ℕ) → T (plain w) → AnswerPrinted m n es (callLines (ledger calls) (queries (answersFromTape w)))
 
 -- `pass` and `fail`: a claim "is passed exactly when the vectors it describes are the vectors that solve all those equations, and
 -- failed otherwise"
@@ -52,4 +53,4 @@ pub record MarkPrinted (m n : ℕ) (es : List Equation) (claim : Claim) (printed
 abbrev pub MarksPrinted : Type 0
 MarksPrinted =
     (calls : List Call) (m n : ℕ) (es : List Equation) → ledger calls ≡ opened m n es
-    → (ws : List ℕ) → WellFormed m n ws → MarkPrinted m n es (claimFrom n ws) (callLines (ledger calls) (marks ws))
+    → (ws : List ℕ) → WellFormed m n ws → MarkPrinted m n es (claimFrom n (wordsIn ws)) (callLines (ledger calls) (queries (marks ws)))

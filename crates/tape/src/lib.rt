@@ -1,8 +1,9 @@
 // A tape of calls: read a call at a time from its bytes, made on a sheet, and told in lines of text. A call has 273 words at most,
 // a head and 17 vectors of 16 entries, and so has an answer block; its lines have fewer than 4,096 bytes.
 mod answering;
+mod bytes;
 pub mod calling;
-mod reading;
+pub mod picking;
+pub mod printing;
 pub mod running;
-pub mod telling;
 mod text;

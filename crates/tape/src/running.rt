@@ -3,10 +3,11 @@ ghost use mathlib.Core.Path.{_≡_};
 ghost use Prim.Native.Nat.{_≤_};
 ghost use lib.ListN.{length};
 ghost use Rattle.slices.specs.Over.{over};
-ghost use Rattle.tape.specs.Lines.{leftOverLine, mostBytes, lines};
+ghost use Rattle.tape.specs.Output.{leftOverLine, mostBytes, lines};
 ghost use Rattle.tape.specs.Reader.{callRoom};
+use crate::calling::CALL_ROOM;
 use crate::calling::next;
-use crate::telling::refused;
+use crate::printing::refused;
 use sheet::Sheet;
 use slices::copying::copy_bytes;
 
@@ -30,7 +31,7 @@ pub fn count(tape: &[u8]) -> usize
     requires { ⌜ length (now tape) ≤ mostBytes ⌝ }
     ensures { λ r. ⌜ r ≡ length (lines (now (tape .entry))) ⌝ }
 {
-    let mut out = [0u8; 4096];
+    let mut out = [0u8; CALL_ROOM];
     let mut sheet = Sheet::fresh();
     let mut rest = &tape[..];
     let mut written: usize = 0;
@@ -49,7 +50,7 @@ pub fn write(tape: &[u8], out: &mut [u8])
     requires { ⌜ (length (now tape) ≤ mostBytes) × (length (lines (now tape)) ≤ length (now out)) ⌝ }
     ensures { λ _. ⌜ now (out .exit) ≡ over (lines (now (tape .entry))) (now (out .entry)) ⌝ }
 {
-    let mut told = [0u8; 4096];
+    let mut told = [0u8; CALL_ROOM];
     let mut sheet = Sheet::fresh();
     let mut rest = &tape[..];
     let mut at: usize = 0;

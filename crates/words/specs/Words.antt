@@ -3,19 +3,21 @@ use mathlib.Core.Bool.{Bool}
 use mathlib.Core.List.{List, map}
 use Prim.Native.Nat.{ℕ, _+_, _*_, _/_, _%_}
 use Rattle.equations.specs.Vectors.{sameVector}
+use Rattle.words.specs.declared.unpacking.Word.{Word}
 
 -- 2 ^ 28: "the low 28" bits are the number
 abbrev pub numbersOfAKind : ℕ
 numbersOfAKind = 268435456
 
--- "A word has 32 bits: the top 4 are its kind, the low 28 its number."
-abbrev pub kindOf : ℕ → ℕ
-kindOf w = w / numbersOfAKind
+-- "A word has 32 bits: the top 4 are its kind, the low 28 its number.": the word that lies in 32 bits of memory
+abbrev pub wordOf : ℕ → Word
+wordOf w = record { kind = w / numbersOfAKind; number = w % numbersOfAKind }
 
-abbrev pub numberOf : ℕ → ℕ
-numberOf w = w % numbersOfAKind
+-- the words that lie in memory
+unfoldable pub wordsIn : List ℕ → List Word
+wordsIn ws = map wordOf ws
 
--- the word of a kind and a number
+-- the 32 bits of a word with this kind and this number
 abbrev pub word : ℕ → ℕ → ℕ
 word kind number = kind * numbersOfAKind + number
 
@@ -48,14 +50,17 @@ strikeKind = 8
 abbrev pub answerKind : ℕ
 answerKind = 9
 
--- the numbers of words
-abbrev pub numbersOf : List ℕ → List ℕ
-numbersOf ws = map numberOf ws
+-- the kinds and the numbers of words
+abbrev pub kindsOf : List Word → List ℕ
+kindsOf words = map (λ (w : Word). w .kind) words
 
--- words of one kind with these numbers
+abbrev pub numbersOf : List Word → List ℕ
+numbersOf words = map (λ (w : Word). w .number) words
+
+-- memory with words of one kind that have these numbers
 abbrev pub wordsOf : ℕ → List ℕ → List ℕ
 wordsOf kind xs = map (word kind) xs
 
 -- whether the words are of exactly these kinds, in this order; so there are as many words as kinds
-unfoldable pub haveKinds : List ℕ → List ℕ → Bool
-haveKinds ws kinds = sameVector (map kindOf ws) kinds
+abbrev pub haveKinds : List Word → List ℕ → Bool
+haveKinds words kinds = sameVector (kindsOf words) kinds

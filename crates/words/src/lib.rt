@@ -1,3 +1,4 @@
-// Words of document 01: reading their kinds and numbers, and making them.
-pub mod reading;
+// Words of document 01: their kinds, words out of memory and words into memory.
+pub mod kinds;
+pub mod unpacking;
 pub mod writing;

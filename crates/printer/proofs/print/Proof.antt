@@ -6,7 +6,7 @@ use lib.Seq.{length-take-le}
 use borrow.Author.Needs.{needs}
 use Rattle.slices.proofs.Parts.{lent-length}
 use Rattle.slices.proofs.Over.{over-fits}
-use Rattle.tape.specs.Lines.{leftOverLine}
+use Rattle.tape.specs.Output.{leftOverLine}
 use Rattle.tape.proofs.Runs.{step-bytes, step-fits}
 use Rattle.printer.proofs.print.Statement.{statement}
 use Rattle.printer.proofs.print.Tie as tie

@@ -1,165 +1,106 @@
--- `solve` meets its contract: `refusal` asks the questions, and where none turns the safe away, `first_turns` may be called and
--- tells the turns that are written.
+-- `solve` meets its contract: `refusal` asks the questions. Where none turns the safe away, it has left the numbers of all values,
+-- and `turns_into` makes the reply.
 use mathlib.Core.List.{List}
-use mathlib.Core.Option.{none, some}
-use mathlib.Core.Path.{_≡_, sym, ap, _∙_}
-use Prim.Native.Nat.{ℕ, _*_}
+use mathlib.Core.Path.{_≡_, sym, subst, _∙_}
+use Prim.Native.Nat.{ℕ, _*_, _≤_}
 use native.Mathlib.Omega.{arith}
 use borrow.Author.Needs.{needs}
 use denote.Ref.{now}
 use lib.ListN.{length, take}
 use lib.Seq.{length-take-le}
+use Rattle.slices.specs.Over.{over}
 use Rattle.questions.specs.Questions.{firstNo}
-use Rattle.equations.specs.Vectors.{Below}
-use Rattle.words.specs.Words.{numbersOfAKind, numbersOf}
-use Rattle.safe.specs.declared.Turned.the-variants.{Wrote}
+use Rattle.words.specs.Words.{wordsIn, numbersOf}
+use Rattle.words.proofs.Words.{words-count, numbers-count}
+use Rattle.words.proofs.Unpacked.{numbers-seen}
+use Rattle.safe.specs.declared.Turned.{Turned}
 use Rattle.safe.specs.Turns.{turnsOf}
-use Rattle.safe.specs.Calls.{argumentQuestions}
-use Rattle.safe.specs.Model.Lines.{Found}
-use Rattle.safe.proofs.Answer.{found-none, found-some}
-use Rattle.safe.proofs.Questions.{Accepted, accepted}
-use Rattle.safe.proofs.Calls.{refused, no-turns, too-short, wrote, turns-small}
+use Rattle.safe.specs.Calls.{mostLocks, argumentQuestions, found, turnsReply, turnedOf, bufferAfter}
+use Rattle.safe.specs.Model.Handed.{valuesRoom, Lockable, Gives}
+use Rattle.safe.proofs.Questions.{accepted}
+use Rattle.safe.proofs.Calls.{refused, let-in}
 use Rattle.safe.proofs.solve.Statement.{statement}
 use Rattle.safe.proofs.solve.Tie as tie
 
--- no question about the arguments turned the safe away
-let-in : (m rows columns number : ℕ) (values : List ℕ) → number ≡ firstNo (argumentQuestions m rows columns values)
-    → number ≡ 0 → Accepted m rows columns values
-let-in m rows columns number values is h = accepted m rows columns values (sym is ∙ h)
+-- where no question about the arguments turned the safe away
+module _ (m rows columns : ℕ) (values : List ℕ) {number : ℕ} (is : number ≡ firstNo (argumentQuestions m rows columns values))
+    (none : number ≡ 0) where
+  few : length values ≤ mostLocks
+  few = omega (arith, accepted m rows columns values (sym is ∙ none) .few, numbers-count values)
 
--- what the first numbers of an answer are, where its head is not 0
-record Shown (m rows columns : ℕ) (values numbers : List ℕ) : Type 0 where
-  are : turnsOf m rows columns (numbersOf values) ≡ some (take (length values) numbers)
-  long : length (take (length values) numbers) ≡ length values
-  small : Below numbersOfAKind (take (length values) numbers)
+  module _ (old : List ℕ) {numbers : List ℕ} (front : numbers ≡ over (take valuesRoom (numbersOf (wordsIn values))) old) where
+    all-seen : take (length values) numbers ≡ numbersOf (wordsIn values)
+    all-seen = numbers-seen valuesRoom values old {r = length values} (omega (arith, words-count values, few)) front (omega (arith, few))
 
-module _ (m rows columns head : ℕ) (values numbers : List ℕ) (safe : Accepted m rows columns values)
-    (tells : (r : ℕ) → r * columns ≡ length values
-    → Found (length values) (turnsOf m r columns (numbersOf values)) head numbers) where
-  nothing : head ≡ 0 → turnsOf m rows columns (numbersOf values) ≡ none
-  nothing h = found-none (length values) head (turnsOf m rows columns (numbersOf values)) numbers (tells rows (safe .count)) h
+    lockable : Lockable m rows columns (take (length values) numbers)
+    lockable = subst (Lockable m rows columns) (sym all-seen) (accepted m rows columns values (sym is ∙ none))
 
-  shows : length numbers ≡ 272 → (head ≡ 0 → ⊥) → Shown m rows columns values numbers
-  shows size h = record {
-    are = are;
-    long = length-take-le (length values) numbers (omega (arith, size, safe .lockable .few));
-    small = turns-small m rows columns (numbersOf values) (take (length values) numbers) are (safe .largest);
-  }
-    where
-      are : turnsOf m rows columns (numbersOf values) ≡ some (take (length values) numbers)
-      are = found-some (length values) head (turnsOf m rows columns (numbersOf values)) numbers (tells rows (safe .count)) h
+    replied : (buffer : List ℕ) {new : List ℕ} {r : Turned}
+        → (rows * columns ≡ length (take (length values) numbers)
+        → Gives (found (turnsOf m rows columns (take (length values) numbers))) buffer r new)
+        → Gives (turnsReply m rows columns values) buffer r new
+    replied buffer {new} {r} given =
+        let-in m rows columns values buffer number is none
+        (subst (λ (ns : List ℕ). Gives (found (turnsOf m rows columns ns)) buffer r new) all-seen (given (lockable .count)))
+
+slice-aggregate-refusal : tie.Need-slice-aggregate-refusal
+slice-aggregate-refusal c = search needs
 
 refusal-requires : tie.Need-refusal-requires
 refusal-requires c κs = search needs
 
 -- the refusal
 returns : tie.Need-returns
+unfolding turnedOf bufferAfter
 returns c =
-    let p = c .before .before .before .before .args in
-    let asked = c .before .refusal in
-    refused (p .m) (p .rows) (p .columns) (now (p .values)) (now (p .out)) (asked .result) (asked .ensures) (c .if1 .taken)
+    let asked = c .before .before .refusal in
+    let p = c .before .before .before .before .before .before .args in
+    refused (p .m) (p .rows) (p .columns) (now (p .values)) (now (p .out)) (asked .result) (asked .ensures .0) (c .if1 .taken)
 
-first-turns-requires : tie.Need-first-turns-requires
-first-turns-requires c κs =
-    let p = c .before .before .before .before .args in
-    let asked = c .before .refusal in
-    let-in (p .m) (p .rows) (p .columns) (asked .result) (now (p .values)) (asked .ensures) (c .if1 .left) .lockable
+array-share-prefix-numbers : tie.Need-array-share-prefix-numbers
+array-share-prefix-numbers c =
+    let asked = c .before .before .refusal in
+    let p = c .before .before .before .before .before .before .args in
+    omega (arith, few (p .m) (p .rows) (p .columns) (now (p .values)) (asked .ensures .0) (c .if1 .left))
 
--- no turns
-returns-2 : tie.Need-returns-2
-returns-2 c =
+slice-aggregate-turns-into : tie.Need-slice-aggregate-turns-into
+slice-aggregate-turns-into c =
+    let asked = c .before .before .before .refusal in
     let p = c .before .before .before .before .before .before .before .args in
+    sym (length-take-le (length (now (p .values))) (asked .last .1 .1 .1 .1 .0)
+    (omega (arith, few (p .m) (p .rows) (p .columns) (now (p .values)) (asked .ensures .0) (c .before .if1 .left))))
+
+turns-into-requires : tie.Need-turns-into-requires
+turns-into-requires c κs =
     let asked = c .before .before .before .before .refusal in
-    let first = c .before .before .first-turns in
-    let yes = c .before .before .before .if1 .left in
-    let safe = let-in (p .m) (p .rows) (p .columns) (asked .result) (now (p .values)) (asked .ensures) yes in
-    no-turns (p .m) (p .rows) (p .columns) (now (p .values)) (now (p .out)) (asked .result) (asked .ensures) yes
-    (nothing (p .m) (p .rows) (p .columns) (first .result .head) (now (p .values)) (first .result .numbers) safe
-    (first .ensures) (c .if2 .taken))
-
--- a buffer that is too short
-returns-3 : tie.Need-returns-3
-returns-3 c =
-    let p = c .before .before .before .before .before .before .before .before .args in
-    let asked = c .before .before .before .before .before .refusal in
-    let first = c .before .before .before .first-turns in
-    let yes = c .before .before .before .before .if1 .left in
-    let safe = let-in (p .m) (p .rows) (p .columns) (asked .result) (now (p .values)) (asked .ensures) yes in
-    let size : length (first .result .numbers) ≡ 272 = search needs in
-    let shown =
-    shows (p .m) (p .rows) (p .columns) (first .result .head) (now (p .values)) (first .result .numbers) safe
-    (first .ensures) size (c .before .if2 .left) in
-    too-short (p .m) (p .rows) (p .columns) (now (p .values)) (now (p .out)) (asked .result) (asked .ensures)
-    (take (length (now (p .values))) (first .result .numbers)) yes (shown .are) (omega (arith, shown .long))
-
-array-share-prefix-turns : tie.Need-array-share-prefix-turns
-array-share-prefix-turns c =
-    let p = c .before .before .before .before .before .before .before .before .before .args in
-    let asked = c .before .before .before .before .before .before .refusal in
-    let first = c .before .before .before .before .first-turns in
-    let yes = c .before .before .before .before .before .if1 .left in
-    let safe = let-in (p .m) (p .rows) (p .columns) (asked .result) (now (p .values)) (asked .ensures) yes in
-    let size : length (first .result .numbers) ≡ 272 = search needs in
-    omega (arith, size, safe .lockable .few)
-
-slice-aggregate-write : tie.Need-slice-aggregate-write
-slice-aggregate-write c =
-    let p = c .before .before .before .before .before .before .before .before .before .before .args in
-    let asked = c .before .before .before .before .before .before .before .refusal in
-    let first = c .before .before .before .before .before .first-turns in
-    let yes = c .before .before .before .before .before .before .if1 .left in
-    let safe = let-in (p .m) (p .rows) (p .columns) (asked .result) (now (p .values)) (asked .ensures) yes in
-    let size : length (first .result .numbers) ≡ 272 = search needs in
-    let shown =
-    shows (p .m) (p .rows) (p .columns) (first .result .head) (now (p .values)) (first .result .numbers) safe
-    (first .ensures) size (c .before .before .before .if2 .left) in
-    sym (shown .long)
-
-write-requires : tie.Need-write-requires
-write-requires c κs =
-    let p = c .before .before .before .before .before .before .before .before .before .before .before .args in
-    let asked = c .before .before .before .before .before .before .before .before .refusal in
-    let first = c .before .before .before .before .before .before .first-turns in
-    let yes = c .before .before .before .before .before .before .before .if1 .left in
-    let safe = let-in (p .m) (p .rows) (p .columns) (asked .result) (now (p .values)) (asked .ensures) yes in
-    let size : length (first .result .numbers) ≡ 272 = search needs in
-    let shown =
-    shows (p .m) (p .rows) (p .columns) (first .result .head) (now (p .values)) (first .result .numbers) safe
-    (first .ensures) size (c .before .before .before .before .if2 .left) in
-    (omega arith, shown .small, omega (arith, shown .long))
+    let p = c .before .before .before .before .before .before .before .before .args in (
+      p .rows,
+      lockable (p .m) (p .rows) (p .columns) (now (p .values)) (asked .ensures .0) (c .before .before .if1 .left) _
+          (asked .ensures .1),
+    )
 
 same-length : tie.Need-same-length
 same-length c = search needs
 
--- the turns
-returns-4 : tie.Need-returns-4
-returns-4 c =
-    let p = c .before .before .before .before .before .before .before .before .before .before .before .before .before .before .args in
-    let asked = c .before .before .before .before .before .before .before .before .before .before .before .refusal in
-    let first = c .before .before .before .before .before .before .before .before .before .first-turns in
-    let yes = c .before .before .before .before .before .before .before .before .before .before .if1 .left in
-    let safe = let-in (p .m) (p .rows) (p .columns) (asked .result) (now (p .values)) (asked .ensures) yes in
-    let size : length (first .result .numbers) ≡ 272 = search needs in
-    let shown =
-    shows (p .m) (p .rows) (p .columns) (first .result .head) (now (p .values)) (first .result .numbers) safe
-    (first .ensures) size (c .before .before .before .before .before .before .before .if2 .left) in
-    let given =
-    wrote (p .m) (p .rows) (p .columns) (now (p .values)) (now (p .out)) (asked .result) (asked .ensures)
-    (take (length (now (p .values))) (first .result .numbers)) yes (shown .are)
-    (omega (arith, shown .long)) in
-    (ap Wrote (sym (shown .long)) ∙ given .0, c .before .before .write .ensures ∙ given .1)
+-- the reply
+returns-2 : tie.Need-returns-2
+unfolding turnedOf bufferAfter
+returns-2 c =
+    let asked = c .before .before .before .before .before .before .before .refusal in
+    let p = c .before .before .before .before .before .before .before .before .before .before .before .args in
+    let none = c .before .before .before .before .before .if1 .left in
+    replied (p .m) (p .rows) (p .columns) (now (p .values)) (asked .ensures .0) none _ (asked .ensures .1) (now (p .out))
+    (c .before .before .turns-into .ensures (p .rows))
 
 pub solve-spec : {M : Type 1} → statement M
 solve-spec =
     tie.close
     (tie.spec
+    slice-aggregate-refusal
     refusal-requires
     returns
-    first-turns-requires
-    returns-2
-    returns-3
-    array-share-prefix-turns
-    slice-aggregate-write
-    write-requires
+    array-share-prefix-numbers
+    slice-aggregate-turns-into
+    turns-into-requires
     same-length
-    returns-4)
+    returns-2)

@@ -1,13 +1,8 @@
 -- The equations of a safe, one for each lock: the turns that reach it add up to the negative of its value. Definitions only.
 use mathlib.Core.Bool.{cond}
 use mathlib.Core.List.{List, [], _∷_, _++_}
-use mathlib.Core.Option.{Option, none, some}
-use mathlib.Core.Path.{_≡_}
-use Prim.Native.Nat.{ℕ, zero, suc, _%_, _<_, _≤_}
-use lib.ListN.{length, take}
+use Prim.Native.Nat.{ℕ, zero, suc, _%_}
 use Rattle.residue.specs.Negative.{negative}
-use Rattle.equations.specs.Vectors.{Below}
-use Rattle.words.specs.Words.{numbersOf}
 use Rattle.safe.specs.Locks.{meets}
 
 -- how often the turn at place p counts for the lock at place i
@@ -27,16 +22,3 @@ lineOf m columns n i x = coefficients columns i 0 n ++ (negative m x % m ∷ [])
 abbrev pub linesFrom : ℕ → ℕ → ℕ → ℕ → List ℕ → List ℕ
 linesFrom m columns n i [] = []
 linesFrom m columns n i (x ∷ values) = lineOf m columns n i x ++ linesFrom m columns n (suc i) values
-
--- what an answer's head and numbers say of n turns: there are none, or they stand in front
-abbrev pub Found : ℕ → Option (List ℕ) → ℕ → List ℕ → Type 0
-Found n none head numbers = head ≡ 0
-Found n (some turns) head numbers = (0 < head) × (take n numbers ≡ turns)
-
--- a safe that every question lets in, its values as words
-pub record Lockable (m columns : ℕ) (values : List ℕ) : Type 0 where
-  pub modulus : 1 < m
-  pub row : 0 < columns
-  pub hasLocks : 0 < length values
-  pub few : length values ≤ 16
-  pub residues : Below m (numbersOf values)

@@ -1,19 +1,21 @@
 -- The calls on a tape with a counter of calls. As many units as there are words are enough, since every call takes a word,
 -- `wanted-some`: `within-step` says it without the counter.
 use mathlib.Core.Path.{_≡_, refl, ap}
-use mathlib.Core.Bool.{Bool, true, false, cond, _&&_}
+use mathlib.Core.Bool.{Bool, true, false, cond}
 use mathlib.Core.List.{List, [], _∷_}
 use Prim.Native.Nat.{ℕ, zero, suc, _+_, _*_, _≤_, _<_}
 use native.Mathlib.Nat.{le-refl}
 use native.Mathlib.Omega.{arith}
-use lib.Dec.{eqb, leb}
+use lib.Dec.{leb}
 use lib.ListN.{length, length-drop}
-use Rattle.words.specs.Words.{kindOf, numberOf, modulusKind, coefficientKind, headKind}
-use Rattle.ledger.specs.Ledger.{Ledger, isOpened, unknownsOf}
+use Rattle.words.specs.Words.{wordOf}
+use Rattle.ledger.specs.Ledger.{Ledger, unknownsOf}
 use Rattle.ledger.specs.Shapes.{largestHead}
 use Rattle.ledger.specs.Calls.{Call}
 use Rattle.ledger.specs.History.{enter}
-use Rattle.tape.specs.FirstCall.{wanted, firstCall, behindFirst}
+use Rattle.tape.specs.declared.picking.Pick.{Pick}
+use Rattle.tape.specs.declared.picking.Pick.the-variants.{Opening, Adding, Marking, Striking, Answering, Nothing}
+use Rattle.tape.specs.FirstCall.{pickOf, wantedBy, wanted, firstCall, behindFirst}
 
 abbrev pub callsWithin : ℕ → Ledger → List ℕ → List Call
 callsWithin zero l ws = []
@@ -21,16 +23,20 @@ callsWithin (suc f) l [] = []
 callsWithin (suc f) l (w ∷ ws) =
     firstCall l (w ∷ ws) ∷ callsWithin f (enter l (firstCall l (w ∷ ws))) (behindFirst l (w ∷ ws))
 
-some-words : (a b c : Bool) (x y : ℕ) → 0 < cond a 2 (cond b (x + 1) (cond c (1 + y) 1))
-some-words true b c x y = omega arith
-some-words false true c x y = omega arith
-some-words false false true x y = omega arith
-some-words false false false x y = omega arith
+claim-some : (few : Bool) (k : ℕ) → 0 < cond few (1 + k) 1
+claim-some true k = omega arith
+claim-some false k = omega arith
+
+some-words : (n : ℕ) (pick : Pick) (number : ℕ) → 0 < wantedBy n pick number
+some-words n Opening number = omega arith
+some-words n Adding number = omega arith
+some-words n Marking number = claim-some (leb number largestHead) (n * number)
+some-words n Striking number = omega arith
+some-words n Answering number = omega arith
+some-words n Nothing number = omega arith
 
 pub wanted-some : (l : Ledger) (w : ℕ) → 0 < wanted l w
-wanted-some l w =
-    some-words (eqb (kindOf w) modulusKind) (eqb (kindOf w) coefficientKind && isOpened l)
-    (eqb (kindOf w) headKind && isOpened l && leb (numberOf w) largestHead) (unknownsOf l) (unknownsOf l * numberOf w)
+wanted-some l w = some-words (unknownsOf l) (pickOf (wordOf w .kind)) (wordOf w .number)
 
 behind-fewer : (l : Ledger) (w : ℕ) (ws : List ℕ) (f : ℕ) → suc (length ws) ≤ suc f → length (behindFirst l (w ∷ ws)) ≤ f
 unfolding behindFirst

@@ -1,10 +1,11 @@
--- `acting::answer_from_tape` is safe: the whole buffer of 273 words is copied behind the outcome, where there is room for both.
+-- `acting::answer_from_tape` is safe: the whole buffer is copied behind the outcome, where there is room for both.
 use mathlib.Core.Path.{_≡_}
 use Prim.Native.Nat.{_+_}
 use native.Mathlib.Omega.{arith}
 use denote.Ref.{now}
 use lib.ListN.{length}
 use Rattle.slices.proofs.Parts.{lent-length}
+use Rattle.ledger.specs.Block.{longestBlock}
 use borrow.Author.Needs.{needs}
 use Rattle.harness.proofs.acting.answer_from_tape.Statement.{statement}
 use Rattle.harness.proofs.acting.answer_from_tape.Tie as tie
@@ -47,7 +48,7 @@ part-copy-end c = search needs
 
 copy-requires : tie.Need-copy-requires
 copy-requires c κs =
-    let size : length (c .before .before .before .fill .result .buffer) ≡ 273 = search needs in
+    let size : length (c .before .before .before .fill .result .buffer) ≡ longestBlock = search needs in
     let p = c .before .before .before .before .before .before .before .before .before .before .args in
     omega (arith, lent-length (p .state .at + 2) (now (p .out)))
 

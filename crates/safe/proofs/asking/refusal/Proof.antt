@@ -1,88 +1,113 @@
--- `asking::refusal` meets its contract: the tests that led to each `return` are the answers to the questions so far.
+-- `asking::refusal` meets its contract: it asks the questions in their order, each of what is seen of the values. With room for
+-- one word more than locks, the kinds tell whether there are as many values as locks; then the numbers of all are seen.
 use mathlib.Core.Path.{sym, _∙_}
-use native.Mathlib.Omega.{arith}
+use Prim.Native.Nat.{_*_}
 use borrow.Author.Needs.{needs}
-use borrow.Author.Tests.{not-true, not-false}
-use Rattle.equations.proofs.Truth.{of-true}
-use Rattle.safe.proofs.Questions.{size-allowed}
+use denote.Ref.{now}
+use lib.ListN.{replicate}
+use lib.Seq.{length-take-le}
+use Rattle.questions.specs.Questions.{allowedModulus}
+use Rattle.questions.proofs.Ladder.{nothing-asked, then-asked}
+use Rattle.equations.specs.Multipliers.{allBelow}
+use Rattle.words.specs.Words.{entryKind, wordsIn, numbersOf, haveKinds}
+use Rattle.safe.specs.Calls.{allowedSize}
+use Rattle.safe.proofs.Questions.{size-asked, kinds-asked, numbers-asked}
 use Rattle.safe.proofs.asking.refusal.Statement.{statement}
 use Rattle.safe.proofs.asking.refusal.Tie as tie
+
+slice-aggregate-unpack-into : tie.Need-slice-aggregate-unpack-into
+slice-aggregate-unpack-into c = search needs
+
+unpack-into-requires : tie.Need-unpack-into-requires
+unpack-into-requires c κs = search needs
+
+locks-requires : tie.Need-locks-requires
+locks-requires c κs = search needs
 
 is-modulus-requires : tie.Need-is-modulus-requires
 is-modulus-requires c κs = search needs
 
-returns : tie.Need-returns
-returns c = rw (sym (c .before .is-modulus .ensures) ∙ not-true _ (c .if1 .taken))
+ask-requires : tie.Need-ask-requires
+ask-requires c κs = search needs
 
-allowed-size-requires : tie.Need-allowed-size-requires
-allowed-size-requires c κs = search needs
+ask-requires-2 : tie.Need-ask-requires-2
+ask-requires-2 c κs = search needs
 
-returns-2 : tie.Need-returns-2
-returns-2 c =
-    rw (
-      sym (c .before .before .before .is-modulus .ensures) ∙ not-false _ (c .before .before .if1 .left),
-      sym (c .before .allowed-size .ensures) ∙ not-true _ (c .if2 .taken),
-    )
+array-share-prefix-kinds : tie.Need-array-share-prefix-kinds
+array-share-prefix-kinds c = search needs
 
-mul-locks : tie.Need-mul-locks
-mul-locks c =
-    let p = c .before .before .before .before .before .args in
-    let size = sym (c .before .allowed-size .ensures) ∙ not-false _ (c .if2 .left) in
-    omega (arith, size-allowed (p .rows) (p .columns) (of-true size))
-
-cast-run-of : tie.Need-cast-run-of
-cast-run-of c =
-    let p = c .before .before .before .before .before .args in
-    let size = sym (c .before .allowed-size .ensures) ∙ not-false _ (c .if2 .left) in
-    omega (arith, size-allowed (p .rows) (p .columns) (of-true size))
+slice-aggregate-run-of : tie.Need-slice-aggregate-run-of
+slice-aggregate-run-of c =
+    let u = c .before .before .before .before .before .before .before .before .unpack-into in
+    sym (length-take-le (u .result) (u .last .1 .0) (search needs))
 
 run-of-requires : tie.Need-run-of-requires
 run-of-requires c κs = search needs
 
-returns-3 : tie.Need-returns-3
-returns-3 c =
-    let b = c .before .before in
-    rw (
-      sym (b .before .before .before .is-modulus .ensures) ∙ not-false _ (b .before .before .if1 .left),
-      sym (b .before .allowed-size .ensures) ∙ not-false _ (b .if2 .left),
-      sym (c .before .run-of .ensures) ∙ not-true _ (c .if3 .taken),
-    )
+ask-requires-3 : tie.Need-ask-requires-3
+ask-requires-3 c κs = search needs
 
-numbers-below-requires : tie.Need-numbers-below-requires
-numbers-below-requires c κs = search needs
+slice-reshare-prefix-all-below : tie.Need-slice-reshare-prefix-all-below
+slice-reshare-prefix-all-below c = search needs
 
-returns-4 : tie.Need-returns-4
-returns-4 c =
-    let b = c .before .before .before .before in
-    rw (
-      sym (b .before .before .before .is-modulus .ensures) ∙ not-false _ (b .before .before .if1 .left),
-      sym (b .before .allowed-size .ensures) ∙ not-false _ (b .if2 .left),
-      sym (c .before .before .before .run-of .ensures) ∙ not-false _ (c .before .before .if3 .left),
-      sym (c .before .numbers-below .ensures) ∙ not-true _ (c .if4 .taken),
-    )
+slice-aggregate-all-below : tie.Need-slice-aggregate-all-below
+slice-aggregate-all-below c =
+    let u = c .before .before .before .before .before .before .before .before .before .before .before .unpack-into in
+    sym (length-take-le (u .result) (u .last .1 .1 .0) (search needs))
 
-returns-5 : tie.Need-returns-5
-returns-5 c =
-    let b = c .before .before .before .before in
-    rw (
-      sym (b .before .before .before .is-modulus .ensures) ∙ not-false _ (b .before .before .if1 .left),
-      sym (b .before .allowed-size .ensures) ∙ not-false _ (b .if2 .left),
-      sym (c .before .before .before .run-of .ensures) ∙ not-false _ (c .before .before .if3 .left),
-      sym (c .before .numbers-below .ensures) ∙ not-false _ (c .if4 .left),
+all-below-requires : tie.Need-all-below-requires
+all-below-requires c κs = search needs
+
+ask-requires-4 : tie.Need-ask-requires-4
+ask-requires-4 c κs = search needs
+
+same-length : tie.Need-same-length
+same-length c = search needs
+
+-- asked-1, asked-2, asked-3: where the question of that number was asked
+returns : tie.Need-returns
+returns c =
+    let asked-1 = c .before .before .before in
+    let asked-3 = asked-1 .before .before .before in
+    let asked-2 = asked-3 .before in
+    let locks = asked-2 .before .before .locks in
+    let u = asked-2 .before .before .before .before .before .before .unpack-into in
+    let p = asked-2 .before .before .before .before .before .before .before .before .before .before .before .args in
+    let values = now (p .values) in
+    let modulus =
+    then-asked nothing-asked 2 tt (allowedModulus (p .m)) (λ yes. asked-2 .before .is-modulus .ensures) (asked-2 .ask .ensures) in
+    let size =
+    then-asked modulus 3 tt (allowedSize (p .rows) (p .columns)) (λ yes. size-asked (p .rows) (p .columns) (locks .ensures))
+    (asked-3 .ask2 .ensures) in
+    let shape =
+    then-asked size 1 tt (haveKinds (wordsIn values) (replicate (p .rows * p .columns) entryKind))
+    (λ yes. asked-1 .before .run-of .ensures
+    ∙ kinds-asked (p .rows) (p .columns) values _ (u .ensures .0) (yes .1 .0) (locks .ensures) (u .ensures .1 .0))
+    (asked-1 .ask3 .ensures) in (
+      then-asked shape 6 tt (allBelow (p .m) (numbersOf (wordsIn values)))
+          (λ yes. c .before .all-below .ensures
+          ∙ numbers-asked (p .rows) (p .columns) values _ (u .ensures .0) (yes .1 .0) (p .m) (yes .1 .1 .0) (u .ensures .1 .1))
+          (c .ask4 .ensures) .is,
+      u .ensures .1 .1,
     )
 
 pub refusal-spec : {M : Type 1} → statement M
 refusal-spec =
     tie.close
     (tie.spec
+    slice-aggregate-unpack-into
+    unpack-into-requires
+    locks-requires
     is-modulus-requires
-    returns
-    allowed-size-requires
-    returns-2
-    mul-locks
-    cast-run-of
+    ask-requires
+    ask-requires-2
+    array-share-prefix-kinds
+    slice-aggregate-run-of
     run-of-requires
-    returns-3
-    numbers-below-requires
-    returns-4
-    returns-5)
+    ask-requires-3
+    slice-reshare-prefix-all-below
+    slice-aggregate-all-below
+    all-below-requires
+    ask-requires-4
+    same-length
+    returns)

@@ -1,14 +1,12 @@
 -- `lines::lines_into` meets its contract. The invariant: the lines of the first i locks are written, up to `at`, and what is
 -- behind them is as it was. The measure is what is left.
 use mathlib.Core.List.{_++_}
-use mathlib.Core.Path.{_≡_, refl, sym, _∙_}
+use mathlib.Core.Path.{_≡_, refl, _∙_}
 use Prim.Native.Nat.{_+_, _-_, _*_, _≤_}
 use native.Mathlib.Omega.{arith}
-use lib.ListN.{length, take, drop, length-map}
+use lib.ListN.{length, take, drop}
 use borrow.Author.Needs.{needs}
 use borrow.Rule.Slice.PartMut.{mid-len}
-use Rattle.words.specs.Words.{numberOf, numbersOf}
-use Rattle.words.proofs.Words.{number-at}
 use Rattle.safe.specs.Model.Lines.{linesFrom}
 use Rattle.safe.proofs.Laid.{line-fits, lines-on, lines-end}
 use Rattle.safe.proofs.lines.lines_into.Statement.{statement}
@@ -17,7 +15,7 @@ use Rattle.safe.proofs.lines.lines_into.Tie as tie
 abbrev Inv-loop : tie.InvT-loop
 Inv-loop lines₀ m columns values n i₀ at₀ lines i at =
     (i ≤ n) × (n ≡ length values) × (at ≡ i * (n + 1)) × (length lines ≡ length lines₀)
-    × (lines ≡ take at (linesFrom m columns n 0 (numbersOf values)) ++ drop at lines₀)
+    × (lines ≡ take at (linesFrom m columns n 0 values) ++ drop at lines₀)
 
 abbrev μ-loop : tie.MeasureT-loop
 μ-loop lines₀ m columns values n i₀ at₀ lines i at = n - i
@@ -55,19 +53,16 @@ part-line-into-end c =
     let z = c .before .before .before .before in
     omega (arith, line-fits (length (z .args .values .now)) (l .i) (l .at) (omega arith) (l .inv .2), z .pre .2)
 
-mul-number : tie.Need-mul-number Inv-loop μ-loop
-mul-number c = search needs
+mul-line-into-2 : tie.Need-mul-line-into-2 Inv-loop μ-loop
+mul-line-into-2 c = search needs
 
-shared-slice-read-number : tie.Need-shared-slice-read-number Inv-loop μ-loop
-shared-slice-read-number c = search needs
-
-number-requires : tie.Need-number-requires Inv-loop μ-loop
-number-requires c κs = search needs
+shared-slice-read-line-into : tie.Need-shared-slice-read-line-into Inv-loop μ-loop
+shared-slice-read-line-into c = search needs
 
 line-into-requires : tie.Need-line-into-requires Inv-loop μ-loop
 line-into-requires c κs =
-    let l = c .before .before .before .before .loop in
-    let z = c .before .before .before .before .before .before .before in
+    let l = c .before .before .before .loop in
+    let z = c .before .before .before .before .before .before in
     let n = length (z .args .values .now) in (
       z .pre .0,
       z .pre .1,
@@ -84,18 +79,15 @@ loop-less c = search needs
 
 loop-again : tie.Need-loop-again Inv-loop μ-loop
 loop-again c =
-    let l = c .before .before .before .before .before .before .before .loop in
-    let a = c .before .before .before .before .before .before .before .before .before .before .args in
-    let values = a .values .now in
-    let s = c .before .before .line-into in
-    let x = c .before .before .before .number in (
+    let l = c .before .before .before .before .before .before .loop in
+    let a = c .before .before .before .before .before .before .before .before .before .args in
+    let s = c .before .before .line-into in (
       omega arith,
       search needs,
       omega (arith, l .inv .2),
       c .before .lines .given .1 ∙ l .inv .3,
-      lines-on (a .m) (a .columns) (length values) (numbersOf values) (a .lines .now) (sym (length-map values numberOf))
-          (l .i) (l .at) (x .result) (l .lines) (s .last .0) (omega arith) (l .inv .2)
-          (x .ensures ∙ sym (number-at values (l .i))) (l .inv .4) (s .ensures),
+      lines-on (a .m) (a .columns) (a .values .now) (a .lines .now) (l .i) (l .at) (l .lines) (s .last .0)
+          (omega arith) (l .inv .2) (l .inv .4) (s .ensures),
     )
 
 same-length : tie.Need-same-length Inv-loop μ-loop
@@ -106,10 +98,8 @@ returns c =
     let l = c .before .loop in
     let z = c .before .before .before .before in
     let a = z .args in
-    let values = a .values .now in
     l .inv .4
-    ∙ lines-end (a .m) (a .columns) (length values) (numbersOf values) (a .lines .now) (sym (length-map values numberOf))
-    (l .i) (l .at) (omega arith) (l .inv .2) (z .pre .2)
+    ∙ lines-end (a .m) (a .columns) (a .values .now) (a .lines .now) (l .i) (l .at) (omega arith) (l .inv .2) (z .pre .2)
 
 pub lines-into-spec : {M : Type 1} → statement M
 lines-into-spec =
@@ -124,9 +114,8 @@ lines-into-spec =
     sub-line-into
     part-line-into-start
     part-line-into-end
-    mul-number
-    shared-slice-read-number
-    number-requires
+    mul-line-into-2
+    shared-slice-read-line-into
     line-into-requires
     add-i
     loop-less

@@ -1,14 +1,23 @@
--- `Sheet::add` meets its contract: `add_refusal` asks the questions, and where none turns the equation away, there is room for
--- it behind the others.
-use mathlib.Core.Path.{_≡_, _∙_}
+-- `Sheet::add` meets its contract: a refused equation keeps the sheet, and the line of an accepted one is what was seen of its words.
+use mathlib.Core.Path.{sym, _∙_}
 use native.Mathlib.Omega.{arith}
 use borrow.Author.Needs.{needs}
 use denote.Ref.{now}
-use lib.ListN.{length}
-use Rattle.sheet.specs.Calls.{adding}
-use Rattle.sheet.proofs.Entering.{turn-refused, add-unknowns, add-under, add-fits, add-room, add-turn}
+use lib.ListN.{replicate}
+use lib.Seq.{length-take-le}
+use Prim.Native.Nat.{_+_}
+use Rattle.ledger.specs.Calls.{adds}
+use Rattle.asking.specs.Sees.{equationRoom}
+use Rattle.sheet.specs.Record.{ledgerOf}
+use Rattle.sheet.proofs.Entering.{add-width as line-width, turn-refused, add-opened, add-under, add-turn}
 use Rattle.sheet.proofs.Sheet.add.Statement.{statement}
 use Rattle.sheet.proofs.Sheet.add.Tie as tie
+
+seen-requires : tie.Need-seen-requires
+seen-requires c κs = search needs
+
+slice-aggregate-add-refusal : tie.Need-slice-aggregate-add-refusal
+slice-aggregate-add-refusal c = search needs
 
 add-refusal-requires : tie.Need-add-refusal-requires
 add-refusal-requires c κs = search needs
@@ -18,80 +27,62 @@ refused-requires c κs = search needs
 
 returns : tie.Need-returns
 returns c =
-    let p = c .before .before .before .before .args in
-    let asked = c .before .before .add-refusal in
-    c .refused .ensures
-    ∙ turn-refused (p .self) (adding (now (p .words))) (asked .result) (asked .ensures) (c .before .if1 .taken)
-
-add-at : tie.Need-add-at
-add-at c =
-    let p = c .before .before .before .before .args in
-    let asked = c .before .before .add-refusal in
-    omega (arith, add-unknowns (p .self) (now (p .words)) (asked .result) (asked .ensures) (c .before .if1 .left))
-
-mul-at : tie.Need-mul-at
-mul-at c =
-    let p = c .before .before .before .before .args in
-    let asked = c .before .before .add-refusal in
-    omega (arith, add-fits (p .self) (now (p .words)) (asked .result) (asked .ensures) (c .before .if1 .left))
-
-mul-cells : tie.Need-mul-cells
-mul-cells c =
-    let p = c .before .before .before .before .args in
-    let asked = c .before .before .add-refusal in
-    omega (arith, add-fits (p .self) (now (p .words)) (asked .result) (asked .ensures) (c .before .if1 .left))
-
-sub-numbers : tie.Need-sub-numbers
-sub-numbers c =
-    let p = c .before .before .before .before .args in
-    let asked = c .before .before .add-refusal in
-    omega (arith, add-fits (p .self) (now (p .words)) (asked .result) (asked .ensures) (c .before .if1 .left))
-
-part-cells-start : tie.Need-part-cells-start
-part-cells-start c =
-    let p = c .before .before .before .before .args in
-    let asked = c .before .before .add-refusal in
-    omega (arith, add-fits (p .self) (now (p .words)) (asked .result) (asked .ensures) (c .before .if1 .left))
-
-part-cells-end : tie.Need-part-cells-end
-part-cells-end c =
-    let p = c .before .before .before .before .args in
-    let size : length (p .self .cells) ≡ 272 = search needs in
-    let asked = c .before .before .add-refusal in
-    omega (arith, add-fits (p .self) (now (p .words)) (asked .result) (asked .ensures) (c .before .if1 .left))
-
-numbers-requires : tie.Need-numbers-requires
-numbers-requires c κs =
-    let p = c .before .before .before .before .before .args in
+    let a = c .before .before .before .before .before .before .before .args in
     let asked = c .before .before .before .add-refusal in
-    add-room (p .self) (now (p .words)) (asked .result) (asked .ensures) (c .before .before .if1 .left)
+    c .refused .ensures
+    ∙ turn-refused (a .self) (adds (now (a .words))) (asked .result)
+    (asked .ensures .0 (ledgerOf (a .self)) (c .before .before .before .before .before .seen .ensures .0)) (c .before .if1 .taken)
 
-add-more : tie.Need-add-more
-add-more c =
-    let p = c .before .before .before .before .before .before .before .args in
-    let asked = c .before .before .before .before .before .add-refusal in
-    omega (arith, add-under (p .self) (now (p .words)) (asked .result) (asked .ensures) (c .before .before .before .before .if1 .left))
+add-width : tie.Need-add-width
+add-width c = search needs
+
+array-share-prefix-numbers : tie.Need-array-share-prefix-numbers
+array-share-prefix-numbers c = search needs
+
+slice-aggregate-with-line : tie.Need-slice-aggregate-with-line
+slice-aggregate-with-line c =
+    let s = c .before .before .before .before .before .before .before .before .args .self in
+    let ws = now (c .before .before .before .before .before .before .before .before .args .words) in
+    let seen = c .before .before .before .before .before .before .seen in
+    let asked = c .before .before .before .before .add-refusal in
+    let is = asked .ensures .0 (ledgerOf s) (seen .ensures .0) in
+    let accepted = c .before .before .if1 .left in
+    sym (length-take-le (seen .result .unknowns + 1) (asked .last .1 .1 .0) (omega arith))
+
+with-line-requires : tie.Need-with-line-requires
+with-line-requires c κs =
+    let s = c .before .before .before .before .before .before .before .before .args .self in
+    let ws = now (c .before .before .before .before .before .before .before .before .args .words) in
+    let seen = c .before .before .before .before .before .before .seen in
+    let asked = c .before .before .before .before .add-refusal in
+    let is = asked .ensures .0 (ledgerOf s) (seen .ensures .0) in
+    let accepted = c .before .before .if1 .left in (
+      add-opened s ws (seen .ensures .0) (asked .result) is accepted,
+      add-under s ws (seen .ensures .0) (asked .result) is accepted,
+      line-width s ws (seen .ensures .0) (asked .result) is accepted (replicate equationRoom 0) (asked .ensures .1),
+    )
 
 returns-2 : tie.Need-returns-2
 returns-2 c =
-    let p = c .before .before .before .before .before .before .before .args in
+    let s = c .before .before .before .before .before .before .before .before .before .args .self in
+    let ws = now (c .before .before .before .before .before .before .before .before .before .args .words) in
+    let seen = c .before .before .before .before .before .before .before .seen in
     let asked = c .before .before .before .before .before .add-refusal in
-    add-turn (p .self) (now (p .words)) (asked .result) (asked .ensures) (c .before .before .before .before .if1 .left)
-    (c .before .numbers .ensures)
+    let is = asked .ensures .0 (ledgerOf s) (seen .ensures .0) in
+    c .with-line .ensures
+    ∙ add-turn s ws (seen .ensures .0) (asked .result) is (c .before .before .before .if1 .left) (replicate equationRoom 0) (asked .ensures .1)
 
 pub add-spec : {M : Type 1} → statement M
 add-spec =
     tie.close
     (tie.spec
+    seen-requires
+    slice-aggregate-add-refusal
     add-refusal-requires
     refused-requires
     returns
-    add-at
-    mul-at
-    mul-cells
-    sub-numbers
-    part-cells-start
-    part-cells-end
-    numbers-requires
-    add-more
+    add-width
+    array-share-prefix-numbers
+    slice-aggregate-with-line
+    with-line-requires
     returns-2)

@@ -1,38 +1,61 @@
--- `Sheet::answer_from_tape` meets its contract: any block fits the buffer, so that `answer` writes it.
-use mathlib.Core.Path.{_≡_, sym, _∙_}
+-- `Sheet::answer_from_tape` meets its contract: an accepted answer has the block of the equations, a refused one none.
+use mathlib.Core.Path.{sym, ap₂, _∙_}
+use Prim.Native.Nat.{ℕ}
+use native.Mathlib.Omega.{arith}
 use borrow.Author.Needs.{needs}
-use denote.Ref.{now}
-use lib.ListN.{length}
+use Rattle.ledger.specs.Calls.{answersFromTape, queries}
+use Rattle.ledger.proofs.Questions.{accepted-yes}
 use Rattle.sheet.specs.Record.{ledgerOf}
-use Rattle.sheet.specs.Calls.{askingFromTape}
-use Rattle.sheet.proofs.BlockGiven.{answered-refused, buffer-refused, tape-answered, tape-buffer}
+use Rattle.sheet.proofs.Opened.{viewed-block}
+use Rattle.sheet.proofs.Answers.{shown-wrote, shown-refused}
 use Rattle.sheet.proofs.Sheet.answer_from_tape.Statement.{statement}
 use Rattle.sheet.proofs.Sheet.answer_from_tape.Tie as tie
+
+view-requires : tie.Need-view-requires
+view-requires c κs = search needs
 
 answer-word-refusal-requires : tie.Need-answer-word-refusal-requires
 answer-word-refusal-requires c κs = search needs
 
+block-of-requires : tie.Need-block-of-requires
+block-of-requires c κs =
+    let a = c .before .before .before .args in
+    let l = ledgerOf (a .self) in
+    let view = c .before .before .view in
+    let asked = c .before .answer-word-refusal in
+    let accepted = sym (asked .ensures l (view .ensures .0 .sees)) ∙ c .if1 .taken in
+    let is = accepted-yes l (queries (answersFromTape (a .word))) accepted .0 in
+    (view .ensures .0 .fits, view .ensures .0 .posed is)
+
+no-block-requires : tie.Need-no-block-requires
+no-block-requires c κs = search needs
+
 returns : tie.Need-returns
 returns c =
-    let p = c .before .before .args in
-    let l = ledgerOf (p .self) in
-    let asked = c .before .answer-word-refusal in (
-      answered-refused l (askingFromTape (p .word)) (asked .result) (sym (asked .ensures)) (c .if1 .taken),
-      buffer-refused l (askingFromTape (p .word)) (asked .result) (sym (asked .ensures)) (c .if1 .taken) (now (p .buffer)),
-    )
-
-answer-requires : tie.Need-answer-requires
-answer-requires c κs = search needs
+    let a = c .before .before .before .before .args in
+    let l = ledgerOf (a .self) in
+    let view = c .before .before .before .view in
+    let asked = c .before .before .answer-word-refusal in
+    let is = asked .ensures l (view .ensures .0 .sees) in
+    let accepted = sym is ∙ c .before .if1 .taken in
+    let opened = accepted-yes l (queries (answersFromTape (a .word))) accepted .0 in
+    shown-wrote l (a .word) is accepted (viewed-block (view .ensures .0) opened (c .block-of .ensures))
 
 returns-2 : tie.Need-returns-2
 returns-2 c =
-    let p = c .before .before .before .before .args in
-    let room : length (now (p .buffer)) ≡ 273 = search needs in
-    let plain = sym (c .before .before .before .answer-word-refusal .ensures) ∙ c .before .before .if1 .left in (
-      c .answer .ensures .0 ∙ tape-answered (p .self) (p .word) (now (p .buffer)) room plain,
-      c .answer .ensures .1 ∙ tape-buffer (p .self) (p .word) (now (p .buffer)) room plain,
-    )
+    let a = c .before .before .before .before .args in
+    let l = ledgerOf (a .self) in
+    let view = c .before .before .before .view in
+    let asked = c .before .before .answer-word-refusal in
+    shown-refused l (a .word) (asked .ensures l (view .ensures .0 .sees)) (c .before .if1 .left) (c .no-block .ensures)
 
 pub answer-from-tape-spec : {M : Type 1} → statement M
 answer-from-tape-spec =
-    tie.close (tie.spec answer-word-refusal-requires returns answer-requires returns-2)
+    tie.close
+    (tie.spec
+    view-requires
+    answer-word-refusal-requires
+    block-of-requires
+    no-block-requires
+    returns
+    returns-2)

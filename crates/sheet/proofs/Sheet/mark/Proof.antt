@@ -1,161 +1,160 @@
--- `Sheet::mark` meets its contract: an accepted claim may be marked, and the mark is of its entries.
-use mathlib.Core.Path.{sym, _∙_}
-use Prim.Native.Nat.{_-_}
+-- `Sheet::mark` meets its contract: the entries of an accepted claim are seen in the numbers, and they are marked.
+use mathlib.Core.Path.{sym, ap, _∙_}
 use native.Mathlib.Omega.{arith}
 use borrow.Author.Needs.{needs}
 use denote.Ref.{now}
-use lib.ListN.{length, replicate}
+use lib.ListN.{replicate}
+use mathlib.Core.Bool.{cond}
+use Rattle.equations.specs.declared.Mark.the-variants.{Pass, Fail}
+use Rattle.sheet.specs.declared.marking.Marked.the-variants.{Gets}
 use lib.Seq.{length-take-le}
-use Rattle.slices.proofs.Parts.{lent-length}
+use Rattle.asking.specs.Sees.{claimRoom}
 use Rattle.sheet.specs.Record.{ledgerOf}
-use Rattle.sheet.proofs.Reading.{filled-fits, length-lines, opened-posed}
-use Rattle.sheet.proofs.MarkGiven.{
-  marked-refused,
-  mark-reads,
-  mark-fit,
-  mark-some,
-  mark-fits,
-  mark-copied,
-  mark-passed,
-  mark-failed,
-}
+use Rattle.sheet.proofs.Few.{unknowns-few}
+use Rattle.sheet.proofs.MarkGiven.{marked-refused, mark-opened, mark-end, mark-claimed, marked-as}
 use Rattle.sheet.proofs.Sheet.mark.Statement.{statement}
 use Rattle.sheet.proofs.Sheet.mark.Tie as tie
+
+view-requires : tie.Need-view-requires
+view-requires c κs = search needs
+
+slice-aggregate-mark-refusal : tie.Need-slice-aggregate-mark-refusal
+slice-aggregate-mark-refusal c = search needs
 
 mark-refusal-requires : tie.Need-mark-refusal-requires
 mark-refusal-requires c κs = search needs
 
 returns : tie.Need-returns
 returns c =
-    let p = c .before .before .before .args in
-    let asked = c .before .mark-refusal in
-    marked-refused (ledgerOf (p .self)) (now (p .words)) (asked .result) (sym (asked .ensures)) (c .if1 .taken)
+    let a = c .before .before .before .before .before .before .before .args in
+    let l = ledgerOf (a .self) in
+    let asked = c .before .before .mark-refusal in
+    marked-refused l (now (a .words)) (asked .result) (sym (asked .ensures .0 l (c .before .before .before .before .before .view .ensures .0 .sees))) (c .if1 .taken)
 
-sub-numbers : tie.Need-sub-numbers
-sub-numbers c =
-    let z = c .before in
-    let p = z .before .before .before .args in
-    let accepted = sym (z .before .mark-refusal .ensures) ∙ z .if1 .left in
-    mark-some (p .self) (now (p .words)) accepted
+array-read-wide : tie.Need-array-read-wide
+array-read-wide c = search needs
 
-part-numbers-start : tie.Need-part-numbers-start
-part-numbers-start c =
-    let z = c .before in
-    let p = z .before .before .before .args in
-    let accepted = sym (z .before .mark-refusal .ensures) ∙ z .if1 .left in
-    mark-some (p .self) (now (p .words)) accepted
+wide-requires : tie.Need-wide-requires
+wide-requires c κs = search needs
 
-part-numbers-end : tie.Need-part-numbers-end
-part-numbers-end c = search needs
+mul-end : tie.Need-mul-end
+mul-end c =
+    let a = c .before .before .before .before .before .before .before .before .args in
+    let l = ledgerOf (a .self) in
+    let view = c .before .before .before .before .before .before .view in
+    let asked = c .before .before .before .mark-refusal in
+    let accepted = sym (asked .ensures .0 l (view .ensures .0 .sees)) ∙ c .before .if1 .left in
+    let few = unknowns-few (a .self) in
+    let head = c .wide in
+    omega (
+      arith,
+      mark-end l (now (a .words)) accepted few (replicate claimRoom 0) (asked .ensures .1) (view .result .seen .modulus)
+          (view .result .seen .unknowns) (head .result) (view .ensures .0 .sees .modulus) (view .ensures .0 .sees .unknowns) (head .ensures),
+    )
 
-slice-aggregate-numbers : tie.Need-slice-aggregate-numbers
-slice-aggregate-numbers c = search needs
+add-end : tie.Need-add-end
+add-end c =
+    let a = c .before .before .before .before .before .before .before .before .args in
+    let l = ledgerOf (a .self) in
+    let view = c .before .before .before .before .before .before .view in
+    let asked = c .before .before .before .mark-refusal in
+    let accepted = sym (asked .ensures .0 l (view .ensures .0 .sees)) ∙ c .before .if1 .left in
+    let few = unknowns-few (a .self) in
+    let head = c .wide in
+    omega (
+      arith,
+      mark-end l (now (a .words)) accepted few (replicate claimRoom 0) (asked .ensures .1) (view .result .seen .modulus)
+          (view .result .seen .unknowns) (head .result) (view .ensures .0 .sees .modulus) (view .ensures .0 .sees .unknowns) (head .ensures),
+    )
 
-numbers-requires : tie.Need-numbers-requires
-numbers-requires c κs =
-    let z = c .before .before .before in
-    let p = z .before .before .before .args in
-    let accepted = sym (z .before .mark-refusal .ensures) ∙ z .if1 .left in
-    omega (arith, lent-length 1 (now (p .words)), mark-fits (p .self) (now (p .words)) accepted)
-
-add-cells : tie.Need-add-cells
-add-cells c =
-    let z = c .before .before .before .before .before in
-    let p = z .before .before .before .args in
-    let accepted = sym (z .before .mark-refusal .ensures) ∙ z .if1 .left in
-    omega (arith, mark-fit (p .self) (now (p .words)) accepted .unknowns)
-
-mul-cells : tie.Need-mul-cells
-mul-cells c =
-    let z = c .before .before .before .before .before .before in
-    let p = z .before .before .before .args in
-    let accepted = sym (z .before .mark-refusal .ensures) ∙ z .if1 .left in
-    let f = mark-fit (p .self) (now (p .words)) accepted in
-    omega (arith, f .whole, filled-fits (p .self) f)
-
-array-share-prefix-cells : tie.Need-array-share-prefix-cells
-array-share-prefix-cells c =
-    let z = c .before .before .before .before .before .before in
-    let p = z .before .before .before .args in
-    let accepted = sym (z .before .mark-refusal .ensures) ∙ z .if1 .left in
-    let f = mark-fit (p .self) (now (p .words)) accepted in
-    omega (arith, f .whole, filled-fits (p .self) f)
-
-slice-aggregate-lines : tie.Need-slice-aggregate-lines
-slice-aggregate-lines c =
-    let z = c .before .before .before .before .before .before .before in
-    let p = z .before .before .before .args in
-    let accepted = sym (z .before .mark-refusal .ensures) ∙ z .if1 .left in
-    sym (length-lines (p .self) (mark-fit (p .self) (now (p .words)) accepted))
-
-sub-entries : tie.Need-sub-entries
-sub-entries c =
-    let z = c .before .before .before .before .before .before .before in
-    let p = z .before .before .before .args in
-    let accepted = sym (z .before .mark-refusal .ensures) ∙ z .if1 .left in
-    mark-some (p .self) (now (p .words)) accepted
-
-array-share-prefix-entries : tie.Need-array-share-prefix-entries
-array-share-prefix-entries c =
-    let z = c .before .before .before .before .before .before .before in
-    let p = z .before .before .before .args in
-    let accepted = sym (z .before .mark-refusal .ensures) ∙ z .if1 .left in
-    omega (arith, mark-fits (p .self) (now (p .words)) accepted)
+array-share-prefix-lines : tie.Need-array-share-prefix-lines
+array-share-prefix-lines c = search needs
 
 slice-aggregate-mark : tie.Need-slice-aggregate-mark
 slice-aggregate-mark c =
-    let z = c .before .before .before .before .before .before .before .before in
-    let p = z .before .before .before .args in
-    let accepted = sym (z .before .mark-refusal .ensures) ∙ z .if1 .left in
-    sym (length-take-le (length (now (p .words)) - 1) (c .before .before .before .before .numbers .last .1 .0)
-    (omega (arith, mark-fits (p .self) (now (p .words)) accepted)))
+    let view = c .before .before .before .before .before .before .before .before .view in
+    sym (length-take-le (view .result .len) (view .result .lines) (view .ensures .0 .fits))
+
+sub-mark : tie.Need-sub-mark
+sub-mark c = search needs
+
+part-mark-start : tie.Need-part-mark-start
+part-mark-start c = search needs
+
+part-mark-end : tie.Need-part-mark-end
+part-mark-end c =
+    let a = c .before .before .before .before .before .before .before .before .before .before .before .args in
+    let l = ledgerOf (a .self) in
+    let view = c .before .before .before .before .before .before .before .before .before .view in
+    let asked = c .before .before .before .before .before .before .mark-refusal in
+    let accepted = sym (asked .ensures .0 l (view .ensures .0 .sees)) ∙ c .before .before .before .before .if1 .left in
+    let few = unknowns-few (a .self) in
+    let head = c .before .before .before .wide in
+    omega (
+      arith,
+      mark-end l (now (a .words)) accepted few (replicate claimRoom 0) (asked .ensures .1) (view .result .seen .modulus)
+          (view .result .seen .unknowns) (head .result) (view .ensures .0 .sees .modulus) (view .ensures .0 .sees .unknowns) (head .ensures),
+    )
 
 mark-requires : tie.Need-mark-requires
 mark-requires c κs =
-    let z = c .before .before .before .before .before .before .before .before in
-    let p = z .before .before .before .args in
-    let accepted = sym (z .before .mark-refusal .ensures) ∙ z .if1 .left in
-    let copy = c .before .before .before .before .numbers in (
-      opened-posed (p .self) (mark-reads (p .self) (now (p .words)) accepted),
-      mark-copied (p .self) (now (p .words)) accepted (replicate 272 0) (copy .last .1 .0) (copy .ensures),
+    let a = c .before .before .before .before .before .before .before .before .before .before .before .before .args in
+    let l = ledgerOf (a .self) in
+    let view = c .before .before .before .before .before .before .before .before .before .before .view in
+    let asked = c .before .before .before .before .before .before .before .mark-refusal in
+    let accepted = sym (asked .ensures .0 l (view .ensures .0 .sees)) ∙ c .before .before .before .before .before .if1 .left in
+    let few = unknowns-few (a .self) in
+    let head = c .before .before .before .before .wide in (
+      view .ensures .0 .posed (mark-opened l (now (a .words)) accepted),
+      mark-claimed l (now (a .words)) accepted few (replicate claimRoom 0) (asked .ensures .1) (view .result .seen .modulus)
+          (view .result .seen .unknowns) (head .result) (view .ensures .0 .sees .modulus) (view .ensures .0 .sees .unknowns) (head .ensures),
     )
 
 returns-2 : tie.Need-returns-2
 returns-2 c =
-    let z = c .before .before .before .before .before .before .before .before .before .before in
-    let p = z .before .before .before .args in
-    let accepted = sym (z .before .mark-refusal .ensures) ∙ z .if1 .left in
-    let copy = c .before .before .before .before .before .before .numbers in
-    mark-passed (p .self) (now (p .words)) accepted (replicate 272 0) (copy .last .1 .0) (copy .ensures) (c .before .mark .result)
-    (c .before .mark .ensures) (c .if2 .taken)
+    let a = c .before .before .before .before .before .before .before .before .before .before .before .before .before .before .args in
+    let l = ledgerOf (a .self) in
+    let view = c .before .before .before .before .before .before .before .before .before .before .before .before .view in
+    let asked = c .before .before .before .before .before .before .before .before .before .mark-refusal in
+    let accepted = sym (asked .ensures .0 l (view .ensures .0 .sees)) ∙ c .before .before .before .before .before .before .before .if1 .left in
+    let few = unknowns-few (a .self) in
+    let head = c .before .before .before .before .before .before .wide in
+    ap (λ b. Gets (cond b Pass Fail)) (sym (c .if2 .taken))
+    ∙ marked-as l (now (a .words)) accepted few (replicate claimRoom 0) (asked .ensures .1) (view .result .seen .modulus)
+    (view .result .seen .unknowns) (head .result) (view .ensures .0 .sees .modulus) (view .ensures .0 .sees .unknowns) (head .ensures) _
+    (view .ensures .0 .equations (mark-opened l (now (a .words)) accepted)) (c .before .mark .result) (c .before .mark .ensures)
 
 returns-3 : tie.Need-returns-3
 returns-3 c =
-    let z = c .before .before .before .before .before .before .before .before .before .before in
-    let p = z .before .before .before .args in
-    let accepted = sym (z .before .mark-refusal .ensures) ∙ z .if1 .left in
-    let copy = c .before .before .before .before .before .before .numbers in
-    mark-failed (p .self) (now (p .words)) accepted (replicate 272 0) (copy .last .1 .0) (copy .ensures) (c .before .mark .result)
-    (c .before .mark .ensures) (c .if2 .left)
+    let a = c .before .before .before .before .before .before .before .before .before .before .before .before .before .before .args in
+    let l = ledgerOf (a .self) in
+    let view = c .before .before .before .before .before .before .before .before .before .before .before .before .view in
+    let asked = c .before .before .before .before .before .before .before .before .before .mark-refusal in
+    let accepted = sym (asked .ensures .0 l (view .ensures .0 .sees)) ∙ c .before .before .before .before .before .before .before .if1 .left in
+    let few = unknowns-few (a .self) in
+    let head = c .before .before .before .before .before .before .wide in
+    ap (λ b. Gets (cond b Pass Fail)) (sym (c .if2 .left))
+    ∙ marked-as l (now (a .words)) accepted few (replicate claimRoom 0) (asked .ensures .1) (view .result .seen .modulus)
+    (view .result .seen .unknowns) (head .result) (view .ensures .0 .sees .modulus) (view .ensures .0 .sees .unknowns) (head .ensures) _
+    (view .ensures .0 .equations (mark-opened l (now (a .words)) accepted)) (c .before .mark .result) (c .before .mark .ensures)
 
 pub mark-spec : {M : Type 1} → statement M
 mark-spec =
     tie.close
     (tie.spec
+    view-requires
+    slice-aggregate-mark-refusal
     mark-refusal-requires
     returns
-    sub-numbers
-    part-numbers-start
-    part-numbers-end
-    slice-aggregate-numbers
-    numbers-requires
-    add-cells
-    mul-cells
-    array-share-prefix-cells
-    slice-aggregate-lines
-    sub-entries
-    array-share-prefix-entries
+    array-read-wide
+    wide-requires
+    mul-end
+    add-end
+    array-share-prefix-lines
     slice-aggregate-mark
+    sub-mark
+    part-mark-start
+    part-mark-end
     mark-requires
     returns-2
     returns-3)

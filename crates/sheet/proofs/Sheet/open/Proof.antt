@@ -1,13 +1,19 @@
--- `Sheet::open` meets its contract: `open_refusal` asks the questions, and where none turns the opening away, there are the two
--- words whose numbers it takes.
-use mathlib.Core.Path.{_∙_}
+-- `Sheet::open` meets its contract: a refused opening keeps the sheet, and an accepted one has the two numbers that were seen.
+use mathlib.Core.Path.{ap, _∙_}
+use Prim.Native.Nat.{ℕ}
 use native.Mathlib.Omega.{arith}
 use borrow.Author.Needs.{needs}
 use denote.Ref.{now}
-use Rattle.sheet.specs.Calls.{opening}
-use Rattle.sheet.proofs.Entering.{turn-refused, open-is, open-length, open-turn}
+use lib.ListN.{getD, replicate}
+use Rattle.ledger.specs.Calls.{opens}
+use Rattle.asking.specs.Sees.{openingRoom}
+use Rattle.sheet.specs.Record.{room}
+use Rattle.sheet.proofs.Entering.{holding, turn-refused, open-is, open-turn}
 use Rattle.sheet.proofs.Sheet.open.Statement.{statement}
 use Rattle.sheet.proofs.Sheet.open.Tie as tie
+
+slice-aggregate-open-refusal : tie.Need-slice-aggregate-open-refusal
+slice-aggregate-open-refusal c = search needs
 
 open-refusal-requires : tie.Need-open-refusal-requires
 open-refusal-requires c κs = search needs
@@ -17,49 +23,38 @@ refused-requires c κs = search needs
 
 returns : tie.Need-returns
 returns c =
-    let p = c .before .before .before .before .args in
-    let asked = c .before .before .open-refusal in
+    let a = c .before .before .before .before .before .before .args in
+    let asked = c .before .before .before .open-refusal in
     c .refused .ensures
-    ∙ turn-refused (p .self) (opening (now (p .words))) (asked .result)
-    (open-is (now (p .words)) (asked .result) (asked .ensures) (p .self)) (c .before .if1 .taken)
+    ∙ turn-refused (a .self) (opens (now (a .words))) (asked .result)
+    (open-is (now (a .words)) (asked .result) (asked .ensures .0) (a .self)) (c .before .if1 .taken)
 
-shared-slice-read-number : tie.Need-shared-slice-read-number
-shared-slice-read-number c =
-    let asked = c .before .before .open-refusal in
-    omega (arith, open-length (now (c .before .before .before .before .args .words)) (asked .result) (asked .ensures) (c .before .if1 .left))
+array-read-wide : tie.Need-array-read-wide
+array-read-wide c = search needs
 
-number-requires : tie.Need-number-requires
-number-requires c κs = search needs
+wide-requires : tie.Need-wide-requires
+wide-requires c κs = search needs
 
-shared-slice-read-number-2 : tie.Need-shared-slice-read-number-2
-shared-slice-read-number-2 c =
-    let asked = c .before .before .before .before .open-refusal in
-    omega (arith, open-length (now (c .before .before .before .before .before .before .args .words)) (asked .result) (asked .ensures) (c .before .before .before .if1 .left))
-
-number-requires-2 : tie.Need-number-requires-2
-number-requires-2 c κs = search needs
-
-cast-n : tie.Need-cast-n
-cast-n c = search needs
+array-read-t11 : tie.Need-array-read-t11
+array-read-t11 c = search needs
 
 returns-2 : tie.Need-returns-2
 returns-2 c =
-    let p = c .before .before .before .before .before .before .before .args in
-    let asked = c .before .before .before .before .before .open-refusal in
-    open-turn (now (p .words)) (asked .result) (asked .ensures) (c .before .before .before .before .if1 .left)
-    (p .self) (c .before .before .number .result) (c .number2 .result)
-    (c .before .before .number .ensures) (c .number2 .ensures)
+    let a = c .before .before .before .before .before .before .args in
+    let asked = c .before .before .before .open-refusal in
+    ap (λ (n : ℕ). holding (record { modulus = getD (asked .last .1 .0) 0 0; unknowns = n; held = 0; cells = replicate room 0 }) 0)
+    (c .wide .ensures)
+    ∙ open-turn (now (a .words)) (asked .result) (asked .ensures .0) (c .before .if1 .left) (replicate openingRoom 0) (asked .ensures .1) (a .self)
 
 pub open-spec : {M : Type 1} → statement M
 open-spec =
     tie.close
     (tie.spec
+    slice-aggregate-open-refusal
     open-refusal-requires
     refused-requires
     returns
-    shared-slice-read-number
-    number-requires
-    shared-slice-read-number-2
-    number-requires-2
-    cast-n
+    array-read-wide
+    wide-requires
+    array-read-t11
     returns-2)

@@ -1,10 +1,14 @@
--- `Sheet::strike_from_tape` meets its contract, as `Sheet::strike` does, with one question more.
-use mathlib.Core.Path.{_∙_}
+-- `Sheet::strike_from_tape` meets its contract: a refused strike keeps the sheet, and an accepted one has an equation to strike.
+use mathlib.Core.Path.{refl, _∙_}
 use borrow.Author.Needs.{needs}
-use Rattle.sheet.specs.Calls.{strikingFromTape}
-use Rattle.sheet.proofs.Entering.{turn-refused, tape-strike-some, tape-strike-turn}
+use Rattle.ledger.specs.Calls.{strikesFromTape}
+use Rattle.sheet.specs.Record.{ledgerOf}
+use Rattle.sheet.proofs.Entering.{turn-refused, strike-opened, strike-some, strike-place, strike-turn}
 use Rattle.sheet.proofs.Sheet.strike_from_tape.Statement.{statement}
 use Rattle.sheet.proofs.Sheet.strike_from_tape.Tie as tie
+
+seen-requires : tie.Need-seen-requires
+seen-requires c κs = search needs
 
 strike-word-refusal-requires : tie.Need-strike-word-refusal-requires
 strike-word-refusal-requires c κs = search needs
@@ -14,24 +18,47 @@ refused-requires c κs = search needs
 
 returns : tie.Need-returns
 returns c =
-    let p = c .before .before .before .args in
+    let a = c .before .before .before .before .args in
     let asked = c .before .before .strike-word-refusal in
     c .refused .ensures
-    ∙ turn-refused (p .self) (strikingFromTape (p .word)) (asked .result) (asked .ensures) (c .before .if1 .taken)
+    ∙ turn-refused (a .self) (strikesFromTape (a .word)) (asked .result) (asked .ensures (ledgerOf (a .self)) (c .before .before .before .seen .ensures .0))
+    (c .before .if1 .taken)
 
-shortened-requires : tie.Need-shortened-requires
-shortened-requires c κs =
-    let p = c .before .before .args in
-    let asked = c .before .strike-word-refusal in
-    tape-strike-some (p .self) (p .word) (asked .result) (asked .ensures) (c .if1 .left)
+sub-without-line : tie.Need-sub-without-line
+sub-without-line c =
+    let a = c .before .before .before .before .args in
+    let seen = c .before .before .before .seen in
+    let asked = c .before .before .strike-word-refusal in
+    strike-some (a .self) (strikesFromTape (a .word)) refl (seen .ensures .0) (asked .result) (asked .ensures (ledgerOf (a .self)) (seen .ensures .0))
+    (c .before .if1 .left)
+
+without-line-requires : tie.Need-without-line-requires
+without-line-requires c κs =
+    let a = c .before .before .before .before .args in
+    let seen = c .before .before .before .seen in
+    let asked = c .before .before .strike-word-refusal in
+    let is = asked .ensures (ledgerOf (a .self)) (seen .ensures .0) in (
+      strike-opened (a .self) (strikesFromTape (a .word)) refl (seen .ensures .0) (asked .result) is (c .before .if1 .left),
+      strike-place (a .self) (strikesFromTape (a .word)) refl (seen .ensures .0) (asked .result) is (c .before .if1 .left),
+    )
 
 returns-2 : tie.Need-returns-2
 returns-2 c =
-    let p = c .before .before .before .args in
-    let asked = c .before .before .strike-word-refusal in
-    c .shortened .ensures
-    ∙ tape-strike-turn (p .self) (p .word) (asked .result) (asked .ensures) (c .before .if1 .left)
+    let a = c .before .before .before .before .before .args in
+    let seen = c .before .before .before .before .seen in
+    let asked = c .before .before .before .strike-word-refusal in
+    c .without-line .ensures
+    ∙ strike-turn (a .self) (strikesFromTape (a .word)) refl (seen .ensures .0) (asked .result) (asked .ensures (ledgerOf (a .self)) (seen .ensures .0))
+    (c .before .before .if1 .left)
 
 pub strike-from-tape-spec : {M : Type 1} → statement M
 strike-from-tape-spec =
-    tie.close (tie.spec strike-word-refusal-requires refused-requires returns shortened-requires returns-2)
+    tie.close
+    (tie.spec
+    seen-requires
+    strike-word-refusal-requires
+    refused-requires
+    returns
+    sub-without-line
+    without-line-requires
+    returns-2)

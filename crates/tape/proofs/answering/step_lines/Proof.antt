@@ -12,8 +12,8 @@ use Rattle.slices.proofs.Over.{over-behind}
 use Rattle.system.specs.Claims.{vectorsWithin}
 use Rattle.tape.specs.Ascii.{bytesOf}
 use Rattle.tape.specs.Text.{lineOf}
-use Rattle.tape.specs.Lines.{stepLines}
-use Rattle.tape.specs.Reader.{lineRoom}
+use Rattle.tape.specs.Output.{stepLines}
+use Rattle.tape.specs.Model.Handed.{lineRoom}
 use Rattle.tape.proofs.Steps.{steps-on, step-part, rows-fit, rows-few}
 use Rattle.tape.proofs.answering.step_lines.Statement.{statement}
 use Rattle.tape.proofs.answering.step_lines.Tie as tie

@@ -1,27 +1,37 @@
 -- `calling::next` meets its contract: the words that the first one's kind wants, or all that are left, are the call's.
-use mathlib.Core.Path.{sym}
+use mathlib.Core.Path.{sym, ap, ap₂, _∙_}
+use Prim.Native.Nat.{ℕ}
 use native.Mathlib.Omega.{arith}
+use borrow.Author.Needs.{needs}
 use denote.Ref.{now}
 use lib.ListN.{length, replicate}
 use lib.Seq.{length-take-le}
 use Rattle.slices.proofs.Over.{over-front}
+use Rattle.words.specs.declared.unpacking.Word.{Word}
+use Rattle.words.specs.Words.{wordOf}
 use Rattle.sheet.specs.Record.{ledgerOf}
-use Rattle.sheet.proofs.Few.{unknowns-few}
+use Rattle.tape.specs.declared.picking.Pick.{Pick}
 use Rattle.tape.specs.Bytes.{wordsWithin}
-use Rattle.tape.proofs.Bytes.{within-length}
-use Rattle.tape.proofs.Picked.{next-call, next-used, stepped}
-use borrow.Author.Needs.{needs}
+use Rattle.tape.specs.FirstCall.{pickOf, wantedBy}
+use Rattle.tape.proofs.OnTape.{within-length}
+use Rattle.tape.proofs.Picked.{next-wants, next-picks, next-call, next-used, stepped}
 use Rattle.tape.proofs.calling.next.Statement.{statement}
 use Rattle.tape.proofs.calling.next.Tie as tie
 
 word-requires : tie.Need-word-requires
 word-requires c κs = search needs
 
-unknowns-requires : tie.Need-unknowns-requires
-unknowns-requires c κs = search needs
+unpack-requires : tie.Need-unpack-requires
+unpack-requires c κs = search needs
+
+picked-requires : tie.Need-picked-requires
+picked-requires c κs = search needs
+
+seen-requires : tie.Need-seen-requires
+seen-requires c κs = search needs
 
 call-length-requires : tie.Need-call-length-requires
-call-length-requires c κs = omega (arith, unknowns-few (c .before .before .before .before .args .sheet))
+call-length-requires c κs = search needs
 
 smaller-requires : tie.Need-smaller-requires
 smaller-requires c κs = search needs
@@ -37,35 +47,36 @@ array-share-prefix-taken c = search needs
 
 slice-aggregate-call : tie.Need-slice-aggregate-call
 slice-aggregate-call c =
-    let z = c .before .before .before .before .before .before .before .before .before .before in
     sym (length-take-le (c .before .before .before .before .smaller .result) (c .before .before .words .last .1 .1 .0) (search needs))
 
 call-requires : tie.Need-call-requires
 call-requires c κs = search needs
 
-mul-t10 : tie.Need-mul-t10
-mul-t10 c = search needs
+mul-t13 : tie.Need-mul-t13
+mul-t13 c = search needs
 
 same-length : tie.Need-same-length
 same-length c = search needs
 
 returns : tie.Need-returns
 returns c =
-    let z = c .before .before .before .before .before .before .before .before .before .before .before .before .before .before .before in
+    let z = c .before .before .before .before .before .before .before .before .before .before .before .before .before .before .before .before .before in
     let rest = now (z .args .rest) in
     let l = ledgerOf (z .args .sheet) in
-    let first = c .before .before .before .before .before .before .before .before .before .before .before .before .word in
+    let first = c .before .before .before .before .before .before .before .before .before .before .before .before .before .before .word in
+    let head = c .before .before .before .before .before .before .before .before .before .before .before .before .before .unpack in
+    let pick = c .before .before .before .before .before .before .before .before .before .before .before .before .picked in
     let length = c .before .before .before .before .before .before .before .before .before .before .call-length in
     let count = c .before .before .before .before .before .before .before .before .before .smaller in
     let words = c .before .before .before .before .before .before .before .words in
     let told = c .before .before .before .call in
-    let unknowns = c .before .before .before .before .before .before .before .before .before .before .before .unknowns in
-    let wants = length .ensures .1 l (sym (unknowns .ensures)) in
+    let picks = next-picks (first .result) (head .ensures) (pick .ensures) in
+    let wants = next-wants l (first .result) (head .ensures) (pick .ensures) (c .before .before .before .before .before .before .before .before .before .before .before .seen .ensures .0 .unknowns) (length .ensures .0) in
     let front = over-front (count .result) (wordsWithin (count .result) rest) (replicate 273 0) (words .ensures)
     (within-length (count .result) rest) in
     stepped (z .args .sheet) rest (z .args .out .now)
-    (next-call l rest (z .pre .0) (first .result) (length .result) (count .result) _ (first .ensures) wants (count .ensures) front)
-    (next-used l rest (z .pre .0) (first .result) (length .result) (count .result) _ (first .ensures) wants (count .ensures) front)
+    (next-call l rest (z .pre .0) (first .result) (length .result) (count .result) _ (first .ensures) wants (count .ensures) front picks)
+    (next-used l rest (z .pre .0) (first .result) (length .result) (count .result) _ (first .ensures) wants (count .ensures) front picks)
     (told .ensures .0) (told .ensures .1)
 
 pub next-spec : {M : Type 1} → statement M
@@ -73,7 +84,9 @@ next-spec =
     tie.close
     (tie.spec
     word-requires
-    unknowns-requires
+    unpack-requires
+    picked-requires
+    seen-requires
     call-length-requires
     smaller-requires
     slice-aggregate-words
@@ -81,6 +94,6 @@ next-spec =
     array-share-prefix-taken
     slice-aggregate-call
     call-requires
-    mul-t10
+    mul-t13
     same-length
     returns)

@@ -9,7 +9,7 @@ use Rattle.slices.proofs.Parts.{lent-length}
 use Rattle.slices.proofs.Over.{over-fits}
 use Rattle.sheet.specs.declared.Sheet.{Sheet}
 use Rattle.sheet.specs.Record.{ledgerOf}
-use Rattle.tape.specs.Lines.{leftOverLine, lines}
+use Rattle.tape.specs.Output.{leftOverLine, lines}
 use Rattle.tape.proofs.Remaining.{remaining, lines-remaining, remaining-end}
 use Rattle.tape.proofs.Runs.{step-bytes, step-fits, step-counts}
 use Rattle.tape.proofs.running.count.Statement.{statement}

@@ -7,7 +7,7 @@ use lib.Seq.{length-take-le}
 use borrow.Author.Needs.{needs}
 use Rattle.slices.proofs.Parts.{lent, lent-length}
 use Rattle.slices.proofs.Over.{over-fits}
-use Rattle.tape.specs.Lines.{leftOverLine}
+use Rattle.tape.specs.Output.{leftOverLine}
 use Rattle.tape.specs.Reader.{linesOn, firstOn}
 use Rattle.tape.proofs.Runs.{step-bytes, step-written, step-fits}
 use Rattle.tape.proofs.Written.{

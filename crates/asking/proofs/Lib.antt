@@ -1,0 +1,3 @@
+-- Laws for the proofs of the questions.
+pub mod Asked
+pub mod ClaimSeen

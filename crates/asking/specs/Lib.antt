@@ -1,0 +1,2 @@
+-- What the questions see of a sheet.
+pub mod Sees

@@ -1,0 +1,69 @@
+// The questions of the calls that open, add or strike. Where a call has words, their numbers go to lent memory, which has room for one
+// word more than the call can have: so many are enough to tell its shape.
+ghost use mathlib.Core.Path.{_≡_};
+ghost use Prim.Native.Nat.{_≤_};
+ghost use lib.ListN.{length, take};
+ghost use Rattle.slices.specs.Over.{over};
+ghost use Rattle.words.specs.Words.{wordsIn, numbersOf};
+ghost use Rattle.ledger.specs.Ledger.{Ledger, unopened, mostUnknowns};
+ghost use Rattle.ledger.specs.Calls.{opens, adds, strikes, strikesFromTape, enters};
+ghost use Rattle.ledger.specs.Questions.{refusalOf};
+ghost use Rattle.asking.specs.Sees.{Sees, openingRoom, equationRoom};
+use crate::Seen;
+use crate::are_unknowns;
+use crate::shapes::is_equation;
+use crate::shapes::is_opening;
+use questions::ask;
+use questions::is_modulus;
+use system::limits::EQUATIONS;
+use system::limits::LINE;
+use system::residues::all_below;
+use words::unpacking::unpack;
+use words::unpacking::unpack_into;
+
+pub const OPENING_ROOM: usize = 3;
+
+pub const EQUATION_ROOM: usize = LINE + 1;
+
+pub fn open_refusal(words: &[u32], numbers: &mut [u32]) -> u32
+    requires { ⌜ length (now numbers) ≡ openingRoom ⌝ }
+    ensures { λ r. ⌜ r ≡ refusalOf unopened (enters (opens (now (words .entry)))) ⌝ }
+    ensures { λ _. ⌜ now (numbers .exit) ≡ over (take openingRoom (numbersOf (wordsIn (now (words .entry))))) (now (numbers .entry)) ⌝ }
+{
+    let mut kinds = [0u32; OPENING_ROOM];
+    let count = unpack_into(words, &mut kinds, numbers);
+    let shape = ask(0, 1, is_opening(&kinds[..count]));
+    let modulus = ask(shape, 2, is_modulus(numbers[0]));
+    ask(modulus, 3, are_unknowns(numbers[1] as usize))
+}
+
+pub fn add_refusal(seen: Seen, words: &[u32], numbers: &mut [u32]) -> u32
+    requires { ⌜ (seen .unknowns ≤ mostUnknowns) × (length (now numbers) ≡ equationRoom) ⌝ }
+    ensures { λ r. ⌜ ((l : Ledger) → Sees l seen → r ≡ refusalOf l (enters (adds (now (words .entry))))) ⌝ }
+    ensures { λ _. ⌜ now (numbers .exit) ≡ over (take equationRoom (numbersOf (wordsIn (now (words .entry))))) (now (numbers .entry)) ⌝ }
+{
+    let mut kinds = [0u32; EQUATION_ROOM];
+    let count = unpack_into(words, &mut kinds, numbers);
+    let equation = is_equation(&kinds[..count], seen.unknowns);
+    let room = seen.held < EQUATIONS;
+    let below = all_below(seen.modulus, &numbers[..count]);
+    let opened = ask(0, 4, seen.opened);
+    let shape = ask(opened, 1, equation);
+    let under = ask(shape, 5, room);
+    ask(under, 6, below)
+}
+
+pub fn strike_refusal(seen: Seen) -> u32
+    ensures { λ r. ⌜ ((l : Ledger) → Sees l seen → r ≡ refusalOf l (enters strikes)) ⌝ }
+{
+    let opened = ask(0, 4, seen.opened);
+    ask(opened, 7, 0 < seen.held)
+}
+
+pub fn strike_word_refusal(seen: Seen, word: u32) -> u32
+    ensures { λ r. ⌜ ((l : Ledger) → Sees l seen → r ≡ refusalOf l (enters (strikesFromTape word))) ⌝ }
+{
+    let opened = ask(0, 4, seen.opened);
+    let plain = ask(opened, 1, unpack(word).number == 0);
+    ask(plain, 7, 0 < seen.held)
+}

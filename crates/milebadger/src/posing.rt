@@ -1,0 +1,25 @@
+// The questions that milebadger_solve asks of its arguments.
+ghost use mathlib.Core.Path.{_≡_};
+ghost use Rattle.questions.specs.Questions.{firstNo};
+ghost use Rattle.milebadger.specs.Calls.{solveQuestions};
+use asking::are_unknowns;
+use questions::ask;
+use system::limits::EQUATIONS;
+use system::residues::all_below;
+
+// The number of the question that turns the system away, or 0 where none does. No u32 is too large a modulus. The numbers are looked
+// at only where their count is right: a caller may lend any memory.
+pub(crate) fn refusal(m: u32, n: u32, lines: &[u32]) -> u32
+    ensures { λ r. ⌜ r ≡ firstNo (solveQuestions m n (now (lines .entry))) ⌝ }
+{
+    let unknowns = n as usize;
+    let width = unknowns + 1;
+    let modulus = ask(0, 2, 2 <= m);
+    let allowed = ask(modulus, 3, are_unknowns(unknowns));
+    let whole = ask(allowed, 1, lines.len() % width == 0);
+    let few = ask(whole, 5, lines.len() / width <= EQUATIONS);
+    if few != 0 {
+        return few;
+    }
+    ask(0, 6, all_below(m, lines))
+}

@@ -1,0 +1,39 @@
+-- `printing::add` meets its contract: what the sheet's call says is told in one line.
+use mathlib.Core.Path.{refl, ap}
+use denote.Ref.{now}
+use Rattle.ledger.specs.Calls.{adds, enters}
+use Rattle.sheet.specs.declared.Turn.{Turn}
+use Rattle.tape.specs.Ascii.{bytesOf}
+use Rattle.tape.proofs.Told.{told, entered-told, held-few}
+use borrow.Author.Needs.{needs}
+use Rattle.tape.proofs.printing.add.Statement.{statement}
+use Rattle.tape.proofs.printing.add.Tie as tie
+
+add-requires : tie.Need-add-requires
+add-requires c κs = search needs
+
+slice-aggregate-entered-line : tie.Need-slice-aggregate-entered-line
+slice-aggregate-entered-line c = search needs
+
+entered-line-requires : tie.Need-entered-line-requires
+entered-line-requires c κs =
+    let turn = c .before .before .before .add in
+    let a = c .before .before .before .before .before .before .args in
+    (search needs, held-few (a .sheet) (adds (now (a .words))) (turn .ensures), search needs)
+
+same-length : tie.Need-same-length
+same-length c = search needs
+
+returns : tie.Need-returns
+returns c =
+    let a = c .before .before .before .before .before .before .before .before .before .args in
+    let call = enters (adds (now (a .words))) in
+    let turn = c .before .before .before .before .before .before .add in
+    let line = c .before .before .entered-line in
+    told (a .sheet) call (a .out .now) (ap (λ (t : Turn). t .sheet) (turn .ensures))
+    (entered-told (a .sheet) (adds (now (a .words))) (turn .ensures) (bytesOf "added") refl) (line .ensures .0) (line .ensures .1)
+
+pub add-spec : {M : Type 1} → statement M
+add-spec =
+    tie.close
+    (tie.spec add-requires slice-aggregate-entered-line entered-line-requires same-length returns)

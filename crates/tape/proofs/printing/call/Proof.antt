@@ -1,0 +1,134 @@
+-- `printing::call` meets its contract, call by call.
+use mathlib.Core.Path.{sym, ap}
+use borrow.Author.Needs.{needs}
+use denote.Ref.{now}
+use Rattle.tape.specs.declared.picking.Pick.{Pick}
+use Rattle.tape.specs.FirstCall.{callBy}
+use Rattle.tape.proofs.Picked.{picked-told}
+use Rattle.tape.proofs.printing.call.Statement.{statement}
+use Rattle.tape.proofs.printing.call.Tie as tie
+
+enum-told : tie.Need-enum-told
+enum-told c = search needs
+
+open-requires : tie.Need-open-requires
+open-requires c κs = search needs
+
+enum-told-2 : tie.Need-enum-told-2
+enum-told-2 c = search needs
+
+add-requires : tie.Need-add-requires
+add-requires c κs = search needs
+
+enum-told-3 : tie.Need-enum-told-3
+enum-told-3 c = search needs
+
+mark-requires : tie.Need-mark-requires
+mark-requires c κs = search needs
+
+enum-told-4 : tie.Need-enum-told-4
+enum-told-4 c = search needs
+
+strike-requires : tie.Need-strike-requires
+strike-requires c κs = search needs
+
+enum-told-5 : tie.Need-enum-told-5
+enum-told-5 c = search needs
+
+answer-requires : tie.Need-answer-requires
+answer-requires c κs = search needs
+
+enum-told-6 : tie.Need-enum-told-6
+enum-told-6 c = search needs
+
+meaningless-requires : tie.Need-meaningless-requires
+meaningless-requires c κs = search needs
+
+same-length : tie.Need-same-length
+same-length c = search needs
+
+returns : tie.Need-returns
+returns c =
+    let a = c .before .before .before .before .before .before .before .before .args in
+    let told = c .before .before .«open» in
+    picked-told (a .sheet) (a .out .now) (ap (λ (p : Pick). callBy p (a .first) (now (a .taken))) (sym (c .before .before .before .before .enum-told .given .1)))
+    (told .ensures .0) (told .ensures .1)
+
+same-length-2 : tie.Need-same-length-2
+same-length-2 c = search needs
+
+returns-2 : tie.Need-returns-2
+returns-2 c =
+    let a = c .before .before .before .before .before .before .before .before .args in
+    let told = c .before .before .add in
+    picked-told (a .sheet) (a .out .now) (ap (λ (p : Pick). callBy p (a .first) (now (a .taken))) (sym (c .before .before .before .before .enum-told2 .given .1)))
+    (told .ensures .0) (told .ensures .1)
+
+same-length-3 : tie.Need-same-length-3
+same-length-3 c = search needs
+
+returns-3 : tie.Need-returns-3
+returns-3 c =
+    let a = c .before .before .before .before .before .before .before .before .args in
+    let told = c .before .before .mark in
+    picked-told (a .sheet) (a .out .now) (ap (λ (p : Pick). callBy p (a .first) (now (a .taken))) (sym (c .before .before .before .before .enum-told3 .given .1)))
+    (told .ensures .0) (told .ensures .1)
+
+same-length-4 : tie.Need-same-length-4
+same-length-4 c = search needs
+
+returns-4 : tie.Need-returns-4
+returns-4 c =
+    let a = c .before .before .before .before .before .before .before .before .args in
+    let told = c .before .before .strike in
+    picked-told (a .sheet) (a .out .now) (ap (λ (p : Pick). callBy p (a .first) (now (a .taken))) (sym (c .before .before .before .before .enum-told4 .given .1)))
+    (told .ensures .0) (told .ensures .1)
+
+same-length-5 : tie.Need-same-length-5
+same-length-5 c = search needs
+
+returns-5 : tie.Need-returns-5
+returns-5 c =
+    let a = c .before .before .before .before .before .before .before .before .args in
+    let told = c .before .before .answer in
+    picked-told (a .sheet) (a .out .now) (ap (λ (p : Pick). callBy p (a .first) (now (a .taken))) (sym (c .before .before .before .before .enum-told5 .given .1)))
+    (told .ensures .0) (told .ensures .1)
+
+same-length-6 : tie.Need-same-length-6
+same-length-6 c = search needs
+
+returns-6 : tie.Need-returns-6
+returns-6 c =
+    let a = c .before .before .before .before .before .before .before .before .args in
+    let told = c .before .before .meaningless in
+    picked-told (a .sheet) (a .out .now) (ap (λ (p : Pick). callBy p (a .first) (now (a .taken))) (sym (c .before .before .before .before .enum-told6 .given .1)))
+    (told .ensures .0) (told .ensures .1)
+
+pub call-spec : {M : Type 1} → statement M
+call-spec =
+    tie.close
+    (tie.spec
+    enum-told
+    open-requires
+    enum-told-2
+    add-requires
+    enum-told-3
+    mark-requires
+    enum-told-4
+    strike-requires
+    enum-told-5
+    answer-requires
+    enum-told-6
+    meaningless-requires
+    same-length
+    returns
+    same-length-2
+    returns-2
+    same-length-3
+    returns-3
+    same-length-4
+    returns-4
+    same-length-5
+    returns-5
+    same-length-6
+    returns-6)

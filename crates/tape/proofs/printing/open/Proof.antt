@@ -1,0 +1,81 @@
+-- `printing::open` meets its contract: an accepted opening prints what is then seen of the sheet, a refused one its refusal.
+use mathlib.Core.Path.{ap, _∙_}
+use borrow.Author.Needs.{needs}
+use denote.Ref.{now}
+use Rattle.ledger.specs.Calls.{opens, enters}
+use Rattle.sheet.specs.declared.Turn.{Turn}
+use Rattle.tape.proofs.Told.{told, said-holds, said-refused, opened-told}
+use Rattle.tape.proofs.printing.open.Statement.{statement}
+use Rattle.tape.proofs.printing.open.Tie as tie
+
+open-requires : tie.Need-open-requires
+open-requires c κs = search needs
+
+enum-told : tie.Need-enum-told
+enum-told c = search needs
+
+seen-requires : tie.Need-seen-requires
+seen-requires c κs = search needs
+
+cast-t14 : tie.Need-cast-t14
+cast-t14 c = search needs
+
+slice-aggregate-line : tie.Need-slice-aggregate-line
+slice-aggregate-line c = search needs
+
+slice-aggregate-line-2 : tie.Need-slice-aggregate-line-2
+slice-aggregate-line-2 c = search needs
+
+line-requires : tie.Need-line-requires
+line-requires c κs = search needs
+
+enum-known-entered : tie.Need-enum-known-entered
+enum-known-entered c = search needs
+
+refused-requires : tie.Need-refused-requires
+refused-requires c κs = search needs
+
+same-length : tie.Need-same-length
+same-length c = search needs
+
+returns : tie.Need-returns
+returns c =
+    let a = c .before .before .before .before .before .before .before .before .before .before .before .before .before .before .args in
+    let call = opens (now (a .words)) in
+    let turn = c .before .before .before .before .before .before .before .before .before .before .before .«open» in
+    let none = said-holds (a .sheet) call (turn .ensures) (c .before .before .before .before .before .before .before .before .enum-told .given .1) in
+    let after = ap (λ (t : Turn). t .sheet) (turn .ensures) in
+    let line = c .before .before .line in
+    told (a .sheet) (enters call) (a .out .now) after
+    (opened-told (a .sheet) (now (a .words)) none after (c .before .before .before .before .before .before .before .seen .ensures .0)) (line .ensures .0 .0) (line .ensures .1)
+
+same-length-2 : tie.Need-same-length-2
+same-length-2 c = search needs
+
+returns-2 : tie.Need-returns-2
+returns-2 c =
+    let a = c .before .before .before .before .before .before .before .before .before .before .before .args in
+    let call = opens (now (a .words)) in
+    let turn = c .before .before .before .before .before .before .before .before .«open» in
+    let said = c .before .before .before .before .before .entered .given .1 in
+    let line = c .before .before .refused in
+    told (a .sheet) (enters call) (a .out .now) (ap (λ (t : Turn). t .sheet) (turn .ensures))
+    (said-refused (a .sheet) call (turn .ensures) said) (line .ensures .0) (line .ensures .1)
+
+pub open-spec : {M : Type 1} → statement M
+open-spec =
+    tie.close
+    (tie.spec
+    open-requires
+    enum-told
+    seen-requires
+    cast-t14
+    slice-aggregate-line
+    slice-aggregate-line-2
+    line-requires
+    enum-known-entered
+    refused-requires
+    same-length
+    returns
+    same-length-2
+    returns-2)

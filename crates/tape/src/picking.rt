@@ -1,0 +1,52 @@
+// Which call a first word picks, and how many words it takes.
+ghost use mathlib.Core.Path.{_≡_};
+ghost use Prim.Native.Nat.{_≤_};
+ghost use Rattle.ledger.specs.Ledger.{mostUnknowns};
+ghost use Rattle.ledger.specs.Block.{longestBlock};
+ghost use Rattle.tape.specs.FirstCall.{pickOf, wantedBy};
+use asking::queries::claim_length;
+use words::kinds::ANSWER;
+use words::kinds::COEFFICIENT;
+use words::kinds::HEAD;
+use words::kinds::MODULUS;
+use words::kinds::STRIKE;
+
+pub enum Pick {
+    Opening,
+    Adding,
+    Marking,
+    Striking,
+    Answering,
+    Nothing,
+}
+
+// The paper asks for this form: a match on the kind's number, with ranges for the kinds that mean nothing. No word has a kind above 15;
+// a match on a number has an arm for every number of its type.
+pub(crate) fn picked(kind: u32) -> Pick
+    ensures { λ r. ⌜ r ≡ pickOf kind ⌝ }
+{
+    match kind {
+        MODULUS => Pick::Opening,
+        COEFFICIENT => Pick::Adding,
+        HEAD => Pick::Marking,
+        STRIKE => Pick::Striking,
+        ANSWER => Pick::Answering,
+        0 | 2 | 4 | 6..=7 | 10..=15 => Pick::Nothing,
+        _ => Pick::Nothing,
+    }
+}
+
+// How many words the call takes, by the first word's number and the sheet's unknowns; an unopened sheet has none.
+pub(crate) fn call_length(pick: Pick, number: u32, n: usize) -> usize
+    requires { ⌜ n ≤ mostUnknowns ⌝ }
+    ensures { λ r. ⌜ (r ≡ wantedBy n pick number) × (r ≤ longestBlock) ⌝ }
+{
+    match pick {
+        Pick::Opening => 2,
+        Pick::Adding => n + 1,
+        Pick::Marking => claim_length(number, n),
+        Pick::Striking => 1,
+        Pick::Answering => 1,
+        Pick::Nothing => 1,
+    }
+}
