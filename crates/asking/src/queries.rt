@@ -36,13 +36,11 @@ pub fn mark_refusal(seen: Seen, words: &[u32], numbers: &mut [u32]) -> u32
 {
     let mut kinds = [0u32; CLAIM_ROOM];
     let count = unpack_into(words, &mut kinds, numbers);
+    let claim = is_claim(&kinds[..count], numbers[0], seen.unknowns);
+    let below = entries_below(seen.modulus, &numbers[..count]);
     let opened = ask(0, 4, seen.opened);
-    let shape = ask(
-        opened,
-        1,
-        is_claim(&kinds[..count], numbers[0], seen.unknowns),
-    );
-    ask(shape, 6, entries_below(seen.modulus, &numbers[..count]))
+    let shape = ask(opened, 1, claim);
+    ask(shape, 6, below)
 }
 
 // The head is no entry.

@@ -12,7 +12,7 @@ use Rattle.equations.specs.Equation.{Equation}
 use Rattle.words.specs.Words.{wordsIn}
 use Rattle.ledger.specs.Ledger.{Ledger, unopened, opened}
 use Rattle.ledger.specs.Shapes.{numberAt}
-use Rattle.ledger.specs.Calls.{Call, Entry, opens, enters, queries}
+use Rattle.ledger.specs.Calls.{Call, opens, enters, queries}
 use Rattle.ledger.specs.Questions.{refusalOf}
 use Rattle.ledger.specs.History.{Effect, begins, gains, loses, effectOf, changed, without, enter, ledgerFrom, ledger}
 use Rattle.ledger.proofs.Effects.{Allows, accepted-allows, enter-accepted}

@@ -1,19 +1,18 @@
 -- What the questions let into a ledger, `ledger-sound`: an opened ledger has nothing else in it. By effect.
 use mathlib.Core.Path.{_≡_, subst}
 use mathlib.Core.List.{List, [], _∷_, _++_}
-use Prim.Native.Nat.{ℕ, zero, suc, _<_}
+use Prim.Native.Nat.{ℕ, zero, suc}
 use native.Mathlib.Omega.{arith}
-use lib.ListN.{length, take, drop, length-append}
+use lib.ListN.{take, drop, length-append}
 use Rattle.questions.specs.Questions.{largestModulus}
 use Rattle.questions.proofs.Questions.{within-range}
-use Rattle.equations.specs.Vectors.{Below}
 use Rattle.equations.specs.Equation.{Equation, Shaped}
 use Rattle.equations.proofs.Lines.{shaped-snoc, shaped-take}
 use Rattle.ledger.specs.Ledger.{Ledger, unopened, opened, mostUnknowns}
 use Rattle.ledger.specs.Calls.{Call}
 use Rattle.ledger.specs.Allowed.{Residues, Allowed}
-use Rattle.ledger.specs.History.{Effect, begins, gains, loses, changed, without, ledger}
-use Rattle.ledger.proofs.Effects.{Gains, Allows, without-length}
+use Rattle.ledger.specs.History.{Effect, begins, gains, loses, changed, ledger}
+use Rattle.ledger.proofs.Effects.{Allows, without-length}
 use Rattle.ledger.proofs.History.{ledger-keeps}
 
 residues-append : (m : ℕ) (es fs : List Equation) → Residues m es → Residues m fs → Residues m (es ++ fs)

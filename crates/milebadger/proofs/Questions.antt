@@ -9,8 +9,8 @@ use native.Mathlib.Nat.{div-add-mod', mul-le-mul-right}
 use native.Mathlib.Omega.{arith}
 use borrow.Author.Tests.{le-leb}
 use lib.Dec.{eqb→eq, leb, leb→le}
-use mir.Facts.{and-yes}
 use lib.ListN.{length}
+use mir.Facts.{and-yes}
 use Rattle.questions.specs.Questions.{firstNo}
 use Rattle.questions.proofs.Questions.{all-yes}
 use Rattle.equations.proofs.Vectors.{all-below}

@@ -17,8 +17,8 @@ use mir.ValLaws.{toZ-pos}
 use mir.Syntax.{w64}
 use Rattle.slices.specs.Over.{over}
 use Rattle.questions.specs.Reply.{Reply, gives, refuses, resultOf, memoryAfter}
-use Rattle.milebadger.proofs.Signed.{handed-on}
 use Rattle.milebadger.specs.Calls.{minus, Replied}
+use Rattle.milebadger.proofs.Signed.{handed-on}
 
 module _ (k : ℕ) (xs old : List ℕ) where
   pub gives-short : length old < length xs → Replied (gives (pos k) xs) old old (negsuc 7)

@@ -11,9 +11,9 @@ use mathlib.Core.Bool.{Bool, true, false, cond, _&&_}
 use mathlib.Core.List.{List, [], _∷_, _++_}
 use Prim.Native.Nat.{ℕ, _≤_}
 use native.Mathlib.Omega.{arith}
+use borrow.Author.Tests.{ne-eqb}
 use lib.Dec.{T, leb, ltb, leb→le, le→leb, ltb→lt}
 use mir.Facts.{and-yes, yes-and}
-use borrow.Author.Tests.{ne-eqb}
 use Rattle.questions.specs.Questions.{Question, firstNo, unlessRefused}
 
 abbrev pub numbered : List Question → Bool

@@ -9,8 +9,8 @@ use mathlib.Core.Option.{Option, none, some}
 use mathlib.Core.Path.{_≡_, refl, subst}
 use Prim.Native.Nat.{ℕ, zero, suc, _*_, _≤_, _<_}
 use native.Mathlib.Omega.{arith}
-use lib.ListN.{length, length-map}
 use borrow.Author.Tests.{eq-eqb, ne-eqb, le-leb, lt-leb}
+use lib.ListN.{length, length-map}
 use Rattle.slices.specs.Over.{over}
 use Rattle.questions.specs.Questions.{firstNo, unlessRefused, largestModulus}
 use Rattle.questions.specs.Reply.{refuses, fits, resultOf, memoryAfter}

@@ -4,7 +4,7 @@
 --   place-fits                  a line that is held lies in the cells
 --   moved-room, moved-up        the lines behind it, written to its place
 use mathlib.Core.Path.{_≡_, sym, ap, subst, _∙_}
-use mathlib.Core.List.{List, _∷_, [], _++_}
+use mathlib.Core.List.{List, _++_}
 use Prim.Native.Nat.{ℕ, suc, _+_, _-_, _*_, _<_, _≤_}
 use native.Mathlib.Nat.{mul-le-mul-right}
 use native.Mathlib.Omega.{arith}
@@ -17,7 +17,6 @@ use Rattle.equations.specs.Lines.{equationAt}
 use Rattle.ledger.specs.Ledger.{isOpened, mostEquations}
 use Rattle.ledger.specs.History.{gains, loses}
 use Rattle.sheet.specs.declared.Sheet.{Sheet}
-use Rattle.sheet.specs.declared.Turn.{Turn}
 use Rattle.sheet.specs.Record.{room, cellsOf, linesIn, ledgerOf, writtenAt, recordBy}
 use Rattle.sheet.proofs.Reading.{Fit, filled, readable-fit, filled-fits, opened-readable}
 use Rattle.sheet.proofs.Joined.{line-whole, drop-take}

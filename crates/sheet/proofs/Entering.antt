@@ -9,9 +9,9 @@ use mathlib.Core.Path.{_≡_, refl, sym, ap, ap₂, subst, _∙_}
 use mathlib.Core.List.{List}
 use Prim.Native.Nat.{ℕ, _+_, _-_, _<_}
 use native.Mathlib.Omega.{arith}
+use borrow.Author.Tests.{eq-eqb, ne-eqb}
 use lib.Dec.{T}
 use lib.ListN.{length, take, getD, replicate}
-use borrow.Author.Tests.{eq-eqb, ne-eqb}
 use Rattle.slices.specs.Over.{over}
 use Rattle.slices.proofs.Over.{over-front}
 use Rattle.equations.specs.Lines.{equationAt}
@@ -19,7 +19,7 @@ use Rattle.equations.proofs.Truth.{true-of}
 use Rattle.words.specs.Words.{wordsIn, numbersOf}
 use Rattle.words.proofs.Words.{numbers-count}
 use Rattle.words.proofs.Unpacked.{all-seen, number-seen}
-use Rattle.ledger.specs.Ledger.{Ledger, unopened, isOpened, unknownsOf, equationsIn, mostEquations, mostUnknowns}
+use Rattle.ledger.specs.Ledger.{unopened, isOpened, unknownsOf, equationsIn, mostEquations}
 use Rattle.ledger.specs.Shapes.{numberAt, isOpening, isEquation}
 use Rattle.ledger.specs.Calls.{Entry, opens, adds, enters}
 use Rattle.ledger.specs.Questions.{refusalOf}

@@ -4,10 +4,10 @@
 --   mark-end               the claim's end is seen in the numbers,
 --   mark-claimed           and its entries, which may be marked
 --   marked-as              and so they are
-use mathlib.Core.Path.{_≡_, sym, ap, subst, _∙_}
+use mathlib.Core.Path.{_≡_, sym, ap, _∙_}
 use mathlib.Core.Bool.{Bool, cond}
 use mathlib.Core.List.{List, [], _∷_, _++_}
-use Prim.Native.Nat.{ℕ, zero, suc, _+_, _-_, _*_, _<_, _≤_}
+use Prim.Native.Nat.{ℕ, suc, _+_, _-_, _*_, _≤_}
 use native.Mathlib.Numerals.{add-one}
 use native.Mathlib.Omega.{arith}
 use borrow.Author.Tests.{ne-eqb}
@@ -25,7 +25,6 @@ use Rattle.words.proofs.Unpacked.{all-seen, number-seen}
 use Rattle.ledger.specs.Ledger.{Ledger, isOpened, modulusOf, unknownsOf, equationsIn, mostUnknowns}
 use Rattle.ledger.specs.Shapes.{numberAt, isClaim, entriesOf}
 use Rattle.ledger.specs.Block.{longestBlock}
-use Rattle.ledger.specs.Marking.{claimMark}
 use Rattle.ledger.specs.Calls.{marks, queries}
 use Rattle.ledger.specs.Questions.{refusalOf}
 use Rattle.ledger.proofs.Shapes.{claim-length, claim-some, claim-fits, claimed}

@@ -5,7 +5,7 @@
 --   mark-tells         so what is a function of its mark tells
 --   right-mark         so it is marked
 --   own-mark           an answer's own words, where there is a solution, are passed
-use mathlib.Core.Path.{_≡_, refl, sym, ap, _∙_}
+use mathlib.Core.Path.{_≡_, refl, ap, _∙_}
 use mathlib.Core.Logic.{_↔_}
 use mathlib.Core.Bool.{Bool, true, false, cond}
 use mathlib.Core.List.{List}

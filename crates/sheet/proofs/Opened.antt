@@ -10,13 +10,13 @@ use mathlib.Core.Logic.{⊎-elim}
 use mathlib.Core.Bool.{Bool, true, false, cond}
 use Prim.Native.Nat.{ℕ, _+_, _*_, _<_, _≤_}
 use native.Mathlib.Omega.{arith}
+use borrow.Author.Tests.{le-leb, lt-leb, eq-eqb}
 use lib.Dec.{T}
 use lib.ListN.{length, take}
-use borrow.Author.Tests.{le-leb, lt-leb, eq-eqb}
 use Rattle.questions.specs.Questions.{allowedModulus}
 use Rattle.equations.specs.Multipliers.{allBelow}
 use Rattle.equations.specs.Lines.{equationsOf}
-use Rattle.equations.proofs.Truth.{of-true, true-of, true-or-false}
+use Rattle.equations.proofs.Truth.{true-of, true-or-false}
 use Rattle.system.specs.declared.solving.Answer.{Answer}
 use Rattle.system.specs.Posed.{Posed}
 use Rattle.system.specs.Block.{answerOf}

@@ -4,7 +4,7 @@
 --   own-block-passes    an answer's own block passes
 use mathlib.Core.Path.{_≡_, refl, ap, ap₂, subst, sym, _∙_}
 use mathlib.Core.Logic.{⊎-elim}
-use mathlib.Core.List.{List, _∷_}
+use mathlib.Core.List.{List}
 use Prim.Native.Nat.{ℕ, _<_, _≤_}
 use native.Mathlib.Omega.{arith}
 use borrow.Author.Tests.{ne-eqb}
@@ -12,7 +12,6 @@ use lib.ListN.{length, take}
 use lib.Dec.{eqb→eq}
 use Rattle.slices.specs.Over.{over}
 use Rattle.slices.proofs.Over.{over-front}
-use Rattle.questions.specs.Questions.{unlessRefused}
 use Rattle.equations.specs.declared.Mark.the-variants.{Pass}
 use Rattle.equations.specs.Equation.{Equation}
 use Rattle.equations.proofs.Answer.{start-found}
@@ -22,14 +21,14 @@ use Rattle.ledger.specs.Ledger.{Ledger, opened}
 use Rattle.ledger.specs.Allowed.{Allowed}
 use Rattle.ledger.specs.Shapes.{claimFrom}
 use Rattle.ledger.specs.Block.{answerWords}
-use Rattle.ledger.specs.Calls.{Call, answers, answersFromTape, queries}
-use Rattle.ledger.specs.Questions.{plain, refusalOf}
+use Rattle.ledger.specs.Calls.{Call, answers, queries}
+use Rattle.ledger.specs.Questions.{refusalOf}
 use Rattle.ledger.specs.History.{ledger}
 use Rattle.ledger.proofs.Answer.{answer-fits}
 use Rattle.ledger.proofs.Refusals.{answers-word-plain}
 use Rattle.ledger.proofs.History.{Opened, opening-opens}
 use Rattle.ledger.proofs.Sound.{ledger-sound}
-use Rattle.sheet.specs.declared.answering.Answered.the-variants.{Wrote, Refused}
+use Rattle.sheet.specs.declared.answering.Answered.the-variants.{Wrote}
 use Rattle.sheet.specs.declared.marking.Marked.the-variants.{Gets}
 use Rattle.sheet.specs.Record.{ledgerOf}
 use Rattle.sheet.specs.Calls.{turnOf, enteredOf, answeredOf, bufferAfter, shownOf, markedOf}
@@ -121,7 +120,7 @@ buffer-kept : (l : Ledger) (old : List ℕ) → 0 < refusalOf l (queries (answer
 buffer-kept l old h = buffer-asked l old ∙ rw (ne-eqb (refusalOf l (queries (answers old))) 0 (λ e. omega arith))
 
 pub decided-always : DecidedAlways
-unfolding turnOf enteredOf markedOf
+unfolding turnOf enteredOf shownOf markedOf
 decided-always calls =
     let reads = after-reads calls in
     let refused : (c : Call) → 0 < refusalOf (ledger calls) c → 0 < refusalOf (ledgerOf (after calls)) c =
@@ -130,7 +129,7 @@ decided-always calls =
       reads = reads;
       entering = λ e. ap (λ (l : Ledger). enteredOf l e) reads;
       answering = λ old. ap (λ (l : Ledger). answeredOf l old) reads ∙ answered-asked (ledger calls) old;
-      showing = λ w. ap (λ (l : Ledger). shownOf l w .refused) reads ∙ shown-refusal (ledger calls) w;
+      showing = λ w. ap (λ (l : Ledger). shownOf l w) reads;
       marking = λ ws. ap (λ (l : Ledger). markedOf l ws) reads;
       sheetKept = λ c h. left-refused (after calls) c (refused c h);
       bufferKept = λ old h. buffer-kept (ledgerOf (after calls)) old (refused (queries (answers old)) h);

@@ -23,8 +23,8 @@ use Rattle.equations.specs.Multipliers.{allBelow}
 use Rattle.equations.specs.Lines.{equationsOf}
 use Rattle.equations.proofs.Truth.{true-of, of-true, true-or-false}
 use Rattle.equations.proofs.Vectors.{all-below}
-use Rattle.system.specs.Posed.{Posed}
 use Rattle.equations.proofs.Lines.{equations-count}
+use Rattle.system.specs.Posed.{Posed}
 use Rattle.ledger.specs.Ledger.{Ledger, unopened, opened, isOpened, equationsIn, mostEquations, mostUnknowns}
 use Rattle.ledger.specs.Questions.{allowedUnknowns}
 use Rattle.sheet.specs.declared.Sheet.{Sheet}

@@ -17,8 +17,7 @@ use lib.ListN.{length, take, drop, getD}
 use lib.Seq.{length-take-le}
 use Rattle.questions.specs.Questions.{largestModulus}
 use Rattle.equations.specs.Vectors.{Below}
-use Rattle.equations.specs.Equation.{Equation, Shaped}
-use Rattle.equations.specs.Lines.{equationsOf}
+use Rattle.equations.specs.Equation.{Shaped}
 use Rattle.equations.proofs.Vectors.{below-mono}
 use Rattle.equations.proofs.Lines.{equations-shaped, equations-count}
 use Rattle.system.specs.declared.solving.Answer.{Answer}

@@ -19,8 +19,9 @@ use Rattle.equations.specs.Answer.{startOf, stepsOf}
 use Rattle.equations.specs.Multipliers.{refutes, allBelow}
 use Rattle.equations.specs.declared.Mark.the-variants.{Pass, Fail}
 use Rattle.equations.specs.Claim.{Claim, describes}
+use Rattle.system.specs.Block.{answerOf}
 use Rattle.words.specs.Words.{word, wordsIn, wordsOf, headKind, entryKind, multiplierKind}
-use Rattle.ledger.specs.Ledger.{opened, equationsIn}
+use Rattle.ledger.specs.Ledger.{opened, modulusOf, unknownsOf, equationsIn}
 use Rattle.ledger.specs.Allowed.{Allowed}
 use Rattle.ledger.specs.Shapes.{isClaim, entriesOf, claimFrom}
 use Rattle.ledger.specs.Block.{longestBlock, blockWords, answerWords}
@@ -34,7 +35,7 @@ use Rattle.sheet.specs.declared.answering.Shown.{Shown}
 use Rattle.sheet.specs.declared.marking.Marked.{Marked}
 use Rattle.sheet.specs.declared.marking.Marked.the-variants.{Gets, Refused as Marked·Refused}
 use Rattle.sheet.specs.Record.{ledgerOf}
-use Rattle.sheet.specs.Calls.{turnOf, answeredOf, bufferAfter, shownOf, markedOf}
+use Rattle.sheet.specs.Calls.{turnOf, answeredOf, bufferAfter, noBlock, shownOf, markedOf}
 use Rattle.sheet.specs.History.{left, after}
 
 -- "refused calls anywhere in it and at least one opening accepted": by the questions, asked of the ledger at that place
@@ -91,8 +92,7 @@ pub record Promised (calls : List Call) : Type 0 where
   pub block : List ℕ
   pub right : RightBlock m n es block
   pub fits : length block ≤ longestBlock
-  -- "An answer asked for then, into a long enough buffer": "Buffer long enough for this block? 8". It is written to the front of a
-  -- buffer that held `old`, and what is behind it is kept.
+  -- "An answer asked for then, into a long enough buffer" that held `old`: "Buffer long enough for this block? 8"
   pub answer : (old : List ℕ) → length block ≤ length old
       → (answeredOf (ledgerOf (after calls)) old ≡ Wrote (length block))
       × (bufferAfter (ledgerOf (after calls)) old ≡ over block old)
@@ -109,8 +109,7 @@ pub record Promised (calls : List Call) : Type 0 where
 abbrev pub Demand3 : Type 0
 Demand3 = (calls : List Call) → OpeningAccepted calls → Promised calls
 
--- What holds after every list, opened or not: the questions, asked of the ledger of that list, decide each call, and what
--- is refused changes nothing.
+-- What holds after every list: the questions, asked of its ledger, decide each call, and what is refused changes nothing.
 pub record Decided (calls : List Call) : Type 0 where
   -- the sheet reads as the ledger that sees the calls alone
   pub reads : ledgerOf (after calls) ≡ ledger calls
@@ -121,12 +120,14 @@ pub record Decided (calls : List Call) : Type 0 where
   pub answering : (old : List ℕ)
       → answeredOf (ledgerOf (after calls)) old
       ≡ unlessRefused Answered·Refused (refusalOf (ledger calls) (queries (answers old))) (Wrote (length (answerWords (ledger calls))))
-  pub showing : (w : ℕ) → shownOf (ledgerOf (after calls)) w .refused ≡ refusalOf (ledger calls) (queries (answersFromTape w))
+  pub showing : (w : ℕ)
+      → shownOf (ledgerOf (after calls)) w
+      ≡ unlessRefused (λ (k : ℕ). record { refused = k; block = noBlock }) (refusalOf (ledger calls) (queries (answersFromTape w)))
+      (record { refused = 0; block = answerOf (modulusOf (ledger calls)) (unknownsOf (ledger calls)) (equationsIn (ledger calls)) })
   pub marking : (ws : List ℕ)
       → markedOf (ledgerOf (after calls)) ws
       ≡ unlessRefused Marked·Refused (refusalOf (ledger calls) (queries (marks ws))) (Gets (claimMark (ledger calls) ws))
-  -- "and then the sheet and all lent memory hold what they held": the sheet after every call, since a caller has one after
-  -- queries too
+  -- "and then the sheet and all lent memory hold what they held": the sheet after queries too, since a caller has one then
   pub sheetKept : (c : Call) → 0 < refusalOf (ledger calls) c → left (after calls) c ≡ after calls
   pub bufferKept : (old : List ℕ) → 0 < refusalOf (ledger calls) (queries (answers old))
       → bufferAfter (ledgerOf (after calls)) old ≡ old

@@ -9,9 +9,9 @@ use native.Mathlib.Omega.{arith}
 use borrow.Author.Tests.{ne-eqb}
 use lib.Dec.{T}
 use lib.ListN.{length, take, getD}
-use Rattle.system.proofs.Block.{block-vectors, block-length}
 use Rattle.system.specs.declared.solving.Answer.{Answer}
 use Rattle.system.specs.Block.{answerOf}
+use Rattle.system.proofs.Block.{block-vectors, block-length}
 use Rattle.ledger.specs.Ledger.{Ledger, isOpened, modulusOf, unknownsOf, equationsIn}
 use Rattle.ledger.specs.Calls.{answersFromTape, queries}
 use Rattle.ledger.specs.Questions.{refusalOf}

@@ -4,7 +4,7 @@
 --   next-picks, next-wants what the first word picks, and how many words that takes
 --   next-call, next-used   the call read, and the bytes of its words
 --   stepped                the reader's step, put together
-use mathlib.Core.Path.{_≡_, refl, sym, ap, _∙_}
+use mathlib.Core.Path.{_≡_, sym, ap, _∙_}
 use mathlib.Core.Logic.{_⊎_, ⊎-elim}
 use mathlib.Core.List.{List}
 use Prim.Native.Nat.{ℕ, _*_, _/_, _≤_, min}

@@ -11,10 +11,10 @@ use denote.Ref.{now}
 use lib.ListN.{take, replicate}
 use lib.Seq.{length-take-le}
 use Rattle.questions.specs.Questions.{firstNo}
+use Rattle.questions.specs.Reply.{refuses}
 use Rattle.equations.specs.Lines.{equationsOf}
 use Rattle.system.specs.Block.{blockOf}
 use Rattle.system.proofs.Written.{written-block, written-fits}
-use Rattle.questions.specs.Reply.{refuses}
 use Rattle.milebadger.specs.Calls.{solveQuestions, blockReply, solveReply}
 use Rattle.milebadger.proofs.Questions.{posed}
 use Rattle.milebadger.proofs.Reply.{replied-on, refuses-replied}

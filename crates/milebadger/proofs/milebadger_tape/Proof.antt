@@ -7,8 +7,8 @@ use borrow.Author.Needs.{needs}
 use borrow.Author.Tests.{le-leb, lt-leb}
 use denote.Ref.{now}
 use lib.ListN.{length}
-use Rattle.tape.specs.Output.{mostBytes, lines}
 use Rattle.questions.specs.Reply.{refuses}
+use Rattle.tape.specs.Output.{mostBytes, lines}
 use Rattle.milebadger.specs.Calls.{blockReply, tapeReply}
 use Rattle.milebadger.proofs.Reply.{gives-short, gives-written, refuses-replied, replied-on}
 use Rattle.milebadger.proofs.milebadger_tape.Statement.{statement}

@@ -1,9 +1,9 @@
 -- `print` is safe and ends. The invariant: the buffer keeps its 4,096 bytes. The measure is the length of the rest.
 use mathlib.Core.Path.{_≡_, sym}
 use native.Mathlib.Omega.{arith}
+use borrow.Author.Needs.{needs}
 use lib.ListN.{length}
 use lib.Seq.{length-take-le}
-use borrow.Author.Needs.{needs}
 use Rattle.slices.proofs.Parts.{lent-length}
 use Rattle.slices.proofs.Over.{over-fits}
 use Rattle.tape.specs.Output.{leftOverLine}

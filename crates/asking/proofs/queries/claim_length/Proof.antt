@@ -1,5 +1,4 @@
 -- `queries::claim_length` meets its contract: a head above 17 takes one word, any other its vectors too.
-use mathlib.Core.Path.{sym}
 use native.Mathlib.Nat.{mul-le-mul}
 use native.Mathlib.Omega.{arith}
 use borrow.Author.Tests.{le-leb, lt-leb}

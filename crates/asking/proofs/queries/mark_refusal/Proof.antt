@@ -28,15 +28,12 @@ slice-aggregate-unpack-into c = search needs
 unpack-into-requires : tie.Need-unpack-into-requires
 unpack-into-requires c κs = search needs
 
-ask-requires : tie.Need-ask-requires
-ask-requires c κs = search needs
-
 array-share-prefix-kinds : tie.Need-array-share-prefix-kinds
 array-share-prefix-kinds c = search needs
 
 slice-aggregate-is-claim : tie.Need-slice-aggregate-is-claim
 slice-aggregate-is-claim c =
-    let u = c .before .before .before .before .before .unpack-into in
+    let u = c .before .before .before .before .unpack-into in
     front-length claimRoom _ _ (u .ensures .0) (λ (w : Word). w .kind) (u .ensures .1 .0)
 
 slice-read-is-claim : tie.Need-slice-read-is-claim
@@ -45,19 +42,22 @@ slice-read-is-claim c = search needs
 is-claim-requires : tie.Need-is-claim-requires
 is-claim-requires c κs = search needs
 
-ask-requires-2 : tie.Need-ask-requires-2
-ask-requires-2 c κs = search needs
-
 slice-reshare-prefix-entries-below : tie.Need-slice-reshare-prefix-entries-below
 slice-reshare-prefix-entries-below c = search needs
 
 slice-aggregate-entries-below : tie.Need-slice-aggregate-entries-below
 slice-aggregate-entries-below c =
-    let u = c .before .before .before .before .before .before .before .before .before .unpack-into in
+    let u = c .before .before .before .before .before .before .before .unpack-into in
     front-length claimRoom _ _ (u .ensures .0) (λ (w : Word). w .number) (u .ensures .1 .1)
 
 entries-below-requires : tie.Need-entries-below-requires
 entries-below-requires c κs = search needs
+
+ask-requires : tie.Need-ask-requires
+ask-requires c κs = search needs
+
+ask-requires-2 : tie.Need-ask-requires-2
+ask-requires-2 c κs = search needs
 
 ask-requires-3 : tie.Need-ask-requires-3
 ask-requires-3 c κs = search needs
@@ -68,22 +68,22 @@ same-length c = search needs
 returns : tie.Need-returns
 unfolding refusalOf
 returns c =
-    let b = c .before .before .before .before in
-    let u = b .before .before .before .before .before .before .before .unpack-into in
-    let start = b .before .before .before .before .before .before .before .before .before .before .before .before in
+    let b = c .before .before .before in
+    let u = b .before .before .before .before .before .before .before .before .unpack-into in
+    let start = b .before .before .before .before .before .before .before .before .before .before .before .before .before in
     let seen = start .args .seen in
     let ws = now (start .args .words) in
     let claim = claim-seen (seen .unknowns) (start .pre .0) ws _ _ (u .ensures .0) (u .ensures .1 .0) (u .ensures .1 .1) in (
       (λ l sees.
-          let opened = opened-asked sees (b .before .before .before .ask .ensures) in
+          let opened = opened-asked sees (c .before .before .ask .ensures) in
           let shape =
           then-asked opened 1 tt (isClaim (unknownsOf l) (wordsIn ws))
-          (λ yes. b .is-claim .ensures ∙ claim ∙ ap (λ (n : ℕ). isClaim n (wordsIn ws)) (sees .unknowns))
-          (c .before .before .before .ask2 .ensures) in
+          (λ yes. b .before .before .is-claim .ensures ∙ claim ∙ ap (λ (n : ℕ). isClaim n (wordsIn ws)) (sees .unknowns))
+          (c .before .ask2 .ensures) in
           then-asked shape 6 tt (allBelow (modulusOf l) (entriesOf (wordsIn ws)))
           (λ yes.
           let few = claim-fits (unknownsOf l) ws (yes .1 .0) (omega (arith, start .pre .0, sees .unknowns)) in
-          c .before .entries-below .ensures
+          b .entries-below .ensures
           ∙ ap₂ (λ (m : ℕ) (xs : List ℕ). allBelow m (drop 1 xs)) (sees .modulus)
           (numbers-seen claimRoom ws _ (u .ensures .0) (u .ensures .1 .1) (omega (arith, few))))
           (c .ask3 .ensures) .is),
@@ -96,15 +96,15 @@ mark-refusal-spec =
     (tie.spec
     slice-aggregate-unpack-into
     unpack-into-requires
-    ask-requires
     array-share-prefix-kinds
     slice-aggregate-is-claim
     slice-read-is-claim
     is-claim-requires
-    ask-requires-2
     slice-reshare-prefix-entries-below
     slice-aggregate-entries-below
     entries-below-requires
+    ask-requires
+    ask-requires-2
     ask-requires-3
     same-length
     returns)

@@ -2,11 +2,11 @@
 use mathlib.Core.Path.{_≡_}
 use Prim.Native.Nat.{_+_}
 use native.Mathlib.Omega.{arith}
+use borrow.Author.Needs.{needs}
 use denote.Ref.{now}
 use lib.ListN.{length}
 use Rattle.slices.proofs.Parts.{lent-length}
 use Rattle.ledger.specs.Block.{longestBlock}
-use borrow.Author.Needs.{needs}
 use Rattle.harness.proofs.acting.answer_from_tape.Statement.{statement}
 use Rattle.harness.proofs.acting.answer_from_tape.Tie as tie
 

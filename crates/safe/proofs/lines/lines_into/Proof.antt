@@ -4,9 +4,9 @@ use mathlib.Core.List.{_++_}
 use mathlib.Core.Path.{_≡_, refl, _∙_}
 use Prim.Native.Nat.{_+_, _-_, _*_, _≤_}
 use native.Mathlib.Omega.{arith}
-use lib.ListN.{length, take, drop}
 use borrow.Author.Needs.{needs}
 use borrow.Rule.Slice.PartMut.{mid-len}
+use lib.ListN.{length, take, drop}
 use Rattle.safe.specs.Model.Lines.{linesFrom}
 use Rattle.safe.proofs.Laid.{line-fits, lines-on, lines-end}
 use Rattle.safe.proofs.lines.lines_into.Statement.{statement}

@@ -1,11 +1,11 @@
 -- `Sheet::add` meets its contract: a refused equation keeps the sheet, and the line of an accepted one is what was seen of its words.
 use mathlib.Core.Path.{sym, _∙_}
+use Prim.Native.Nat.{_+_}
 use native.Mathlib.Omega.{arith}
 use borrow.Author.Needs.{needs}
 use denote.Ref.{now}
 use lib.ListN.{replicate}
 use lib.Seq.{length-take-le}
-use Prim.Native.Nat.{_+_}
 use Rattle.ledger.specs.Calls.{adds}
 use Rattle.asking.specs.Sees.{equationRoom}
 use Rattle.sheet.specs.Record.{ledgerOf}

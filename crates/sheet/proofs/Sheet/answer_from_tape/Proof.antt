@@ -1,7 +1,5 @@
 -- `Sheet::answer_from_tape` meets its contract: an accepted answer has the block of the equations, a refused one none.
-use mathlib.Core.Path.{sym, ap₂, _∙_}
-use Prim.Native.Nat.{ℕ}
-use native.Mathlib.Omega.{arith}
+use mathlib.Core.Path.{sym, _∙_}
 use borrow.Author.Needs.{needs}
 use Rattle.ledger.specs.Calls.{answersFromTape, queries}
 use Rattle.ledger.proofs.Questions.{accepted-yes}

@@ -1,14 +1,14 @@
 -- `Sheet::mark` meets its contract: the entries of an accepted claim are seen in the numbers, and they are marked.
 use mathlib.Core.Path.{sym, ap, _∙_}
+use mathlib.Core.Bool.{cond}
 use native.Mathlib.Omega.{arith}
 use borrow.Author.Needs.{needs}
 use denote.Ref.{now}
 use lib.ListN.{replicate}
-use mathlib.Core.Bool.{cond}
-use Rattle.equations.specs.declared.Mark.the-variants.{Pass, Fail}
-use Rattle.sheet.specs.declared.marking.Marked.the-variants.{Gets}
 use lib.Seq.{length-take-le}
+use Rattle.equations.specs.declared.Mark.the-variants.{Pass, Fail}
 use Rattle.asking.specs.Sees.{claimRoom}
+use Rattle.sheet.specs.declared.marking.Marked.the-variants.{Gets}
 use Rattle.sheet.specs.Record.{ledgerOf}
 use Rattle.sheet.proofs.Few.{unknowns-few}
 use Rattle.sheet.proofs.MarkGiven.{marked-refused, mark-opened, mark-end, mark-claimed, marked-as}

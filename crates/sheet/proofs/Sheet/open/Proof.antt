@@ -1,7 +1,6 @@
 -- `Sheet::open` meets its contract: a refused opening keeps the sheet, and an accepted one has the two numbers that were seen.
 use mathlib.Core.Path.{ap, _∙_}
 use Prim.Native.Nat.{ℕ}
-use native.Mathlib.Omega.{arith}
 use borrow.Author.Needs.{needs}
 use denote.Ref.{now}
 use lib.ListN.{getD, replicate}

@@ -1,7 +1,7 @@
 -- `Sheet::view` meets its contract: the lines are the front of the cells, and fit them.
+use Prim.Native.Nat.{_+_}
 use native.Mathlib.Nat.{mul-le-mul}
 use native.Mathlib.Omega.{arith}
-use Prim.Native.Nat.{_+_}
 use borrow.Author.Needs.{needs}
 use Rattle.sheet.proofs.Opened.{views}
 use Rattle.sheet.proofs.Sheet.view.Statement.{statement}

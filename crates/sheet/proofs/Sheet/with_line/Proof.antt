@@ -4,7 +4,7 @@ use native.Mathlib.Omega.{arith}
 use borrow.Author.Needs.{needs}
 use denote.Ref.{now}
 use lib.ListN.{length}
-use Rattle.sheet.proofs.Cells.{filled-small, width-small, line-room, line-written}
+use Rattle.sheet.proofs.Cells.{filled-small, line-room, line-written}
 use Rattle.sheet.proofs.Sheet.with_line.Statement.{statement}
 use Rattle.sheet.proofs.Sheet.with_line.Tie as tie
 

@@ -4,12 +4,12 @@ use mathlib.Core.Path.{sym, ap, _∙_}
 use mathlib.Core.List.{List}
 use Prim.Native.Nat.{ℕ}
 use native.Mathlib.Omega.{arith}
+use borrow.Author.Needs.{needs}
 use lib.ListN.{length, length-take}
 use lib.Seq.{length-take-le}
 use Rattle.slices.specs.Over.{over}
 use Rattle.slices.proofs.Parts.{lent-length}
 use Rattle.tape.proofs.Steps.{head-fits, block-none, block-length, block-written}
-use borrow.Author.Needs.{needs}
 use Rattle.tape.proofs.answering.block_lines.Statement.{statement}
 use Rattle.tape.proofs.answering.block_lines.Tie as tie
 

@@ -4,8 +4,8 @@ use mathlib.Core.Path.{_≡_, sym, ap, _∙_}
 use mathlib.Core.List.{List, _++_}
 use Prim.Native.Nat.{ℕ, _+_, _-_, _*_, _≤_}
 use native.Mathlib.Omega.{arith}
-use lib.ListN.{length, take, drop, length-take, length-append}
 use borrow.Author.Needs.{needs}
+use lib.ListN.{length, take, drop, length-take, length-append}
 use Rattle.slices.specs.Over.{over}
 use Rattle.slices.proofs.Parts.{lent-length}
 use Rattle.slices.proofs.Over.{over-behind}

@@ -2,8 +2,8 @@
 use mathlib.Core.Path.{_≡_, ap, _∙_}
 use Prim.Native.Nat.{ℕ, _-_, _*_, _≤_}
 use native.Mathlib.Omega.{arith}
-use lib.ListN.{length, length-set}
 use borrow.Author.Needs.{needs}
+use lib.ListN.{length, length-set}
 use Rattle.slices.specs.Over.{over}
 use Rattle.slices.proofs.Parts.{lent-is, lent-length}
 use Rattle.tape.specs.Bytes.{wordAt, wordsWithin}

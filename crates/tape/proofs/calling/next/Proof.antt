@@ -1,18 +1,12 @@
 -- `calling::next` meets its contract: the words that the first one's kind wants, or all that are left, are the call's.
-use mathlib.Core.Path.{sym, ap, ap₂, _∙_}
-use Prim.Native.Nat.{ℕ}
-use native.Mathlib.Omega.{arith}
+use mathlib.Core.Path.{sym}
 use borrow.Author.Needs.{needs}
 use denote.Ref.{now}
 use lib.ListN.{length, replicate}
 use lib.Seq.{length-take-le}
 use Rattle.slices.proofs.Over.{over-front}
-use Rattle.words.specs.declared.unpacking.Word.{Word}
-use Rattle.words.specs.Words.{wordOf}
 use Rattle.sheet.specs.Record.{ledgerOf}
-use Rattle.tape.specs.declared.picking.Pick.{Pick}
 use Rattle.tape.specs.Bytes.{wordsWithin}
-use Rattle.tape.specs.FirstCall.{pickOf, wantedBy}
 use Rattle.tape.proofs.OnTape.{within-length}
 use Rattle.tape.proofs.Picked.{next-wants, next-picks, next-call, next-used, stepped}
 use Rattle.tape.proofs.calling.next.Statement.{statement}

@@ -1,5 +1,4 @@
 -- `picking::call_length` meets its contract, call by call.
-use mathlib.Core.Path.{sym}
 use native.Mathlib.Omega.{arith}
 use borrow.Author.Needs.{needs}
 use Rattle.tape.proofs.picking.call_length.Statement.{statement}

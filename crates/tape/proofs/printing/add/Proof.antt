@@ -1,11 +1,11 @@
 -- `printing::add` meets its contract: what the sheet's call says is told in one line.
 use mathlib.Core.Path.{refl, ap}
+use borrow.Author.Needs.{needs}
 use denote.Ref.{now}
 use Rattle.ledger.specs.Calls.{adds, enters}
 use Rattle.sheet.specs.declared.Turn.{Turn}
 use Rattle.tape.specs.Ascii.{bytesOf}
 use Rattle.tape.proofs.Told.{told, entered-told, held-few}
-use borrow.Author.Needs.{needs}
 use Rattle.tape.proofs.printing.add.Statement.{statement}
 use Rattle.tape.proofs.printing.add.Tie as tie
 

@@ -1,9 +1,9 @@
 -- `printing::entered_line` meets its contract, case by case.
 use Prim.Native.Nat.{_≤_}
 use native.Mathlib.Omega.{arith}
+use borrow.Author.Needs.{needs}
 use Rattle.sheet.specs.declared.Entered.the-variants.{Holds}
 use Rattle.tape.specs.Model.Handed.{heldBy}
-use borrow.Author.Needs.{needs}
 use Rattle.tape.proofs.printing.entered_line.Statement.{statement}
 use Rattle.tape.proofs.printing.entered_line.Tie as tie
 

@@ -1,9 +1,9 @@
 -- `printing::mark` meets its contract: what the sheet's call says is told in one line.
 use mathlib.Core.Path.{refl}
+use borrow.Author.Needs.{needs}
 use denote.Ref.{now}
 use Rattle.ledger.specs.Calls.{marks, queries}
 use Rattle.tape.proofs.Told.{told, marked-told}
-use borrow.Author.Needs.{needs}
 use Rattle.tape.proofs.printing.mark.Statement.{statement}
 use Rattle.tape.proofs.printing.mark.Tie as tie
 

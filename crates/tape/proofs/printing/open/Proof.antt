@@ -1,5 +1,5 @@
 -- `printing::open` meets its contract: an accepted opening prints what is then seen of the sheet, a refused one its refusal.
-use mathlib.Core.Path.{ap, _∙_}
+use mathlib.Core.Path.{ap}
 use borrow.Author.Needs.{needs}
 use denote.Ref.{now}
 use Rattle.ledger.specs.Calls.{opens, enters}

@@ -1,10 +1,10 @@
 -- `printing::strike` meets its contract: what the sheet's call says is told in one line.
 use mathlib.Core.Path.{refl, ap}
+use borrow.Author.Needs.{needs}
 use Rattle.ledger.specs.Calls.{strikesFromTape, enters}
 use Rattle.sheet.specs.declared.Turn.{Turn}
 use Rattle.tape.specs.Ascii.{bytesOf}
 use Rattle.tape.proofs.Told.{told, entered-told, held-few}
-use borrow.Author.Needs.{needs}
 use Rattle.tape.proofs.printing.strike.Statement.{statement}
 use Rattle.tape.proofs.printing.strike.Tie as tie
 

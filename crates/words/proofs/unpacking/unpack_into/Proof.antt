@@ -1,7 +1,7 @@
 -- `unpacking::unpack_into` meets its contract. The invariant: the first i kinds and the first i numbers are written, and behind them
 -- both slices are as they were. The measure is what is left.
-use mathlib.Core.Path.{_≡_, sym, ap, _∙_}
-use Prim.Native.Nat.{_≤_, _-_, min}
+use mathlib.Core.Path.{sym, ap, _∙_}
+use Prim.Native.Nat.{_≤_, _-_}
 use native.Mathlib.Omega.{arith}
 use borrow.Author.Needs.{needs}
 use lib.ListN.{length, take, length-take}
