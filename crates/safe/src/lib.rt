@@ -1,13 +1,13 @@
 // The safe puzzle: locks in rows and columns that are turned together. The turns that open it are found by solving an
 // equation for each lock.
-mod asking;
 mod lines;
 mod opening;
+mod posing;
 
 ghost use mathlib.Core.Path.{_≡_};
 ghost use Rattle.safe.specs.Calls.{turnedOf, bufferAfter};
-use asking::refusal;
 use opening::turns_into;
+use posing::refusal;
 
 // The most locks that a safe may have.
 pub(crate) const LOCKS: usize = 16;

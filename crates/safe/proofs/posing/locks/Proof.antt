@@ -1,4 +1,4 @@
--- `asking::locks` meets its contract: a size with a number above 16 is not allowed, and of the others the product tells.
+-- `posing::locks` meets its contract: a size with a number above 16 is not allowed, and of the others the product tells.
 use mathlib.Core.Bool.{Bool, true, false, cond}
 use mathlib.Core.Path.{_≡_, refl}
 use Prim.Native.Nat.{ℕ, zero, suc, _*_, _≤_, _<_}
@@ -9,8 +9,8 @@ use lib.Dec.{T}
 use Rattle.equations.proofs.Truth.{false-of}
 use Rattle.safe.specs.Calls.{mostLocks, allowedSize}
 use Rattle.safe.proofs.Questions.{size-allowed}
-use Rattle.safe.proofs.asking.locks.Statement.{statement}
-use Rattle.safe.proofs.asking.locks.Tie as tie
+use Rattle.safe.proofs.posing.locks.Statement.{statement}
+use Rattle.safe.proofs.posing.locks.Tie as tie
 
 -- one number above 16 is enough
 too-many : (rows columns : ℕ) → mostLocks < rows → 1 ≤ columns → mostLocks < rows * columns

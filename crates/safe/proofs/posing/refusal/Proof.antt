@@ -1,4 +1,4 @@
--- `asking::refusal` meets its contract: it asks the questions in their order, each of what is seen of the values. With room for
+-- `posing::refusal` meets its contract: it asks the questions in their order, each of what is seen of the values. With room for
 -- one word more than locks, the kinds tell whether there are as many values as locks; then the numbers of all are seen.
 use mathlib.Core.Path.{sym, _∙_}
 use Prim.Native.Nat.{_*_}
@@ -12,8 +12,8 @@ use Rattle.equations.specs.Multipliers.{allBelow}
 use Rattle.words.specs.Words.{entryKind, wordsIn, numbersOf, haveKinds}
 use Rattle.safe.specs.Calls.{allowedSize}
 use Rattle.safe.proofs.Questions.{size-asked, kinds-asked, numbers-asked}
-use Rattle.safe.proofs.asking.refusal.Statement.{statement}
-use Rattle.safe.proofs.asking.refusal.Tie as tie
+use Rattle.safe.proofs.posing.refusal.Statement.{statement}
+use Rattle.safe.proofs.posing.refusal.Tie as tie
 
 slice-aggregate-unpack-into : tie.Need-slice-aggregate-unpack-into
 slice-aggregate-unpack-into c = search needs
