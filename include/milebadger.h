@@ -1,23 +1,54 @@
-/* milebadger.h: the calls of the Milebadger library. Link target/staticlib/libmilebadger.a.
+/* milebadger.h: the calls of the Milebadger library, for exercises on linear equations over the residues 0..m-1.
+ *
+ * A workbench has a sheet for each student in its own memory. It opens the sheet, adds equations and strikes them, asks
+ * for the answer, and has claims marked. A whole program (x + 2y = 0 mod 4, and the claim "0 0, and the step 2 3"):
+ *
+ *     #include <inttypes.h>
+ *     #include <stdio.h>
+ *
+ *     #include "milebadger.h"
+ *
+ *     int main(void)
+ *     {
+ *         const uint32_t opening[] = {MILEBADGER_MODULUS(4), MILEBADGER_UNKNOWNS(2)};
+ *         const uint32_t equation[] = {MILEBADGER_COEFFICIENT(1), MILEBADGER_COEFFICIENT(2), MILEBADGER_RIGHT(0)};
+ *         const uint32_t claim[] = {MILEBADGER_HEAD(2), MILEBADGER_ENTRY(0), MILEBADGER_ENTRY(0),
+ *                                   MILEBADGER_ENTRY(2), MILEBADGER_ENTRY(3)};
+ *         uint32_t block[MILEBADGER_LONGEST_BLOCK];
+ *         milebadger_sheet sheet = {0};
+ *
+ *         int64_t result = milebadger_open(&sheet, opening, 2);
+ *         if (result >= 0)
+ *             result = milebadger_add(&sheet, equation, 3);
+ *         if (result >= 0)
+ *             result = milebadger_answer(&sheet, block, MILEBADGER_LONGEST_BLOCK);
+ *         for (int64_t i = 0; i < result; i++)
+ *             printf("%" PRIu32 "%c", MILEBADGER_NUMBER(block[i]), i + 1 < result ? ' ' : '\n');
+ *         if (result >= 0)
+ *             result = milebadger_mark(&sheet, claim, 5);
+ *         puts(result < 0 ? milebadger_sentence(result) : result == MILEBADGER_PASS ? "pass" : "fail");
+ *         return 0;
+ *     }
+ *
+ * It prints `3 0 0 2 1 0 2` (three vectors: the start 0 0, and the steps 2 1 and 0 2), then `pass`.
  *
  * Every input has its answer: no call fails, loops or reads or writes outside the memory that it is lent.
  *
  * Results. A call returns
- *     more than 0  and has written to the front of `out`: 1 from the two calls that always write two numbers, else how
- *                  many numbers, words or bytes it wrote,
- *     0            where there is nothing to write,
- *     -1 to -6     where a question about its arguments has the answer no: the first such question's number. Each call
- *                  lists its questions in their order,
- *     -8           where `out` is too short for the numbers. Asked last, and only where numbers would be written,
- *     -10          where a tape is too long.
- * At 0 and at a negative result `out` keeps its content. Past the numbers it always does. A tape's call writes bytes
- * where the others write numbers.
+ *     0 or more   where it is made. Each call says what the number is,
+ *     below 0     where it is refused: a question about its arguments has the answer no, and the result is minus the
+ *                 first such question's number. Each call lists its questions in their order. Whether `out` is long
+ *                 enough, -8, is asked last, and only where something would be written. The numbers have names,
+ *                 MILEBADGER_REFUSED_.., and milebadger_sentence says them in English.
+ * A refused call changes nothing: `sheet` and `out` keep every byte. Past what is written, and at the result 0, `out`
+ * keeps its content too.
  *
- * Memory. `out` points to `out_len` numbers, or bytes, that are the caller's and that nobody else uses during the call.
- * `lines`, `values` and `tape` point to as many numbers, or bytes, as their lengths say, which nobody writes meanwhile;
- * they do not overlap `out`. A length may be 0: the pointer then leads to something of the caller's all the same, and
- * nothing is read or written. No call keeps anything for the next one; calls with different memory may run at the same
- * time.
+ * Memory. `sheet` points to a sheet of the caller's. `out` points to `out_len` numbers, words or bytes that are the
+ * caller's. Nobody else uses `out` during the call, nor `sheet` where it is not const. `words`, `lines`, `values` and
+ * `tape` point to as many words, numbers or bytes as their lengths say; nobody writes these, or a const `sheet`,
+ * meanwhile. None of them overlaps another that the call writes. A length may be 0: the pointer then leads to something
+ * of the caller's all the same, and nothing is read or written. The library keeps nothing from one call to the next;
+ * what a sheet holds is in the sheet. Calls with different memory may run at the same time.
  */
 #ifndef MILEBADGER_H
 #define MILEBADGER_H
@@ -28,6 +59,75 @@
 #ifdef __cplusplus
 extern "C" {
 #endif
+
+/* This header's version: 10,000 times its first number, 100 times its second and its third; 10000 is 1.0.0. */
+#define MILEBADGER_VERSION 10000
+
+/* The library's version. The header goes with its library: a program that loads the shared library can compare this
+ * with MILEBADGER_VERSION when it starts.
+ *
+ * Returns  the MILEBADGER_VERSION that the library was made with. */
+uint32_t milebadger_version(void);
+
+/* Results with a name: those of a mark, and the refusals. */
+#define MILEBADGER_PASS 1
+#define MILEBADGER_FAIL 0
+#define MILEBADGER_REFUSED_SHAPE (-1)
+#define MILEBADGER_REFUSED_MODULUS (-2)
+#define MILEBADGER_REFUSED_UNKNOWNS (-3)
+#define MILEBADGER_REFUSED_UNOPENED (-4)
+#define MILEBADGER_REFUSED_FULL (-5)
+#define MILEBADGER_REFUSED_NUMBER (-6)
+#define MILEBADGER_REFUSED_NOTHING_TO_STRIKE (-7)
+#define MILEBADGER_REFUSED_BUFFER (-8)
+#define MILEBADGER_REFUSED_LEFT_OVER (-9) /* no call's result: just a line of a tape */
+#define MILEBADGER_REFUSED_TAPE (-10)
+
+/* What a result says, in plain English: "done" where the call was made, else why it was refused. */
+static inline const char *milebadger_sentence(int64_t result)
+{
+    if (result >= 0)
+        return "done";
+    switch (result) {
+    case MILEBADGER_REFUSED_SHAPE:
+        return "wrong shape: not the words that this call takes, or not as many";
+    case MILEBADGER_REFUSED_MODULUS:
+        return "the modulus is not from 2 to 65,535";
+    case MILEBADGER_REFUSED_UNKNOWNS:
+        return "the number of unknowns, or of locks, is not from 1 to 16";
+    case MILEBADGER_REFUSED_UNOPENED:
+        return "the sheet is not opened";
+    case MILEBADGER_REFUSED_FULL:
+        return "there is room for 16 equations and no more";
+    case MILEBADGER_REFUSED_NUMBER:
+        return "a number is not below the modulus";
+    case MILEBADGER_REFUSED_NOTHING_TO_STRIKE:
+        return "there is no equation to strike";
+    case MILEBADGER_REFUSED_BUFFER:
+        return "the buffer is too short";
+    case MILEBADGER_REFUSED_LEFT_OVER:
+        return "the tape ends in 1 to 3 bytes that are no word";
+    case MILEBADGER_REFUSED_TAPE:
+        return "the tape is longer than 65,536 bytes";
+    default:
+        return "no result of this library";
+    }
+}
+
+/* Words: the kind in the top 4 bits, the number in the low 28. And the number of a word.
+ *
+ * A number below 0 or above MILEBADGER_LARGEST_NUMBER makes a word of another kind or with another number; minus 1 mod m
+ * is m - 1. In C11 and later, such a constant does not compile. Numbers that are known only when the program runs are
+ * not looked at, nor any in C99 and C++. Each macro evaluates its argument once, and is a constant where that is one. */
+#define MILEBADGER_MODULUS(m) MILEBADGER_WORD(1, m)
+#define MILEBADGER_UNKNOWNS(n) MILEBADGER_WORD(2, n)
+#define MILEBADGER_COEFFICIENT(a) MILEBADGER_WORD(3, a)
+#define MILEBADGER_RIGHT(b) MILEBADGER_WORD(4, b)
+#define MILEBADGER_HEAD(h) MILEBADGER_WORD(5, h)
+#define MILEBADGER_ENTRY(x) MILEBADGER_WORD(6, x)
+#define MILEBADGER_STRIKE MILEBADGER_WORD(8, 0)
+#define MILEBADGER_ANSWER MILEBADGER_WORD(9, 0)
+#define MILEBADGER_NUMBER(word) ((uint32_t)(word) & MILEBADGER_LARGEST_NUMBER)
 
 /* What is accepted, at most. Just milebadger_solve takes any modulus. */
 #define MILEBADGER_LARGEST_MODULUS 65535
@@ -48,12 +148,105 @@ extern "C" {
 /* Bytes that are enough for the lines of every tape of `tape_len` bytes: an answer for each word, and `refused 9`. */
 #define MILEBADGER_LINES_ROOM(tape_len) ((size_t)(tape_len) / 4 * MILEBADGER_LONGEST_ANSWER + 10)
 
+/* A sheet: a modulus m, a number n of unknowns, and up to 16 equations. Zeroed memory is a fresh sheet, which is not
+ * opened: `milebadger_sheet sheet = {0};`. It can be copied by assignment, and kept in a file for programs of the same
+ * MILEBADGER_VERSION. What its numbers stand for is the library's business: it is read and changed by the calls alone.
+ * Numbers that no call has put there do no harm; they are read as a sheet that is not opened, or as the one they spell.
+ * Its size is part of the library: all of a program is compiled with the header that goes with it. */
+typedef struct {
+    uint32_t numbers[291];
+} milebadger_sheet;
+
+/* Opens a sheet, or begins one again: no equations are then held. The words are MODULUS(m), UNKNOWNS(n). (Each name of a
+ * word with MILEBADGER_ in front, here and below.)
+ *
+ * Asks     Two words, of these kinds? If not, -1.  m from 2 to 65,535? If not, -2.  n from 1 to 16? If not, -3.
+ * Writes   the sheet.
+ * Returns  0; or -1, -2, -3. */
+int64_t milebadger_open(milebadger_sheet *sheet, const uint32_t *words, size_t words_len);
+
+/* Adds an equation behind those that are held, also where nothing solves them all any more. The words are a
+ * COEFFICIENT(a) for each unknown, then RIGHT(b).
+ *
+ * Asks     Opened? If not, -4.  n + 1 words, of these kinds? If not, -1.  Fewer than 16 equations held? If not, -5.
+ *          All numbers below m? If not, -6.
+ * Writes   the sheet.
+ * Returns  how many equations are then held, 1 to 16; or -4, -1, -5, -6. */
+int64_t milebadger_add(milebadger_sheet *sheet, const uint32_t *words, size_t words_len);
+
+/* Strikes the last equation. `place` is 0: another place is refused, until a later version gives it a meaning.
+ *
+ * Asks     Opened? If not, -4.  place equal to 0? If not, -1.  An equation there? If not, -7.
+ * Writes   the sheet.
+ * Returns  how many equations are then held, 0 to 15; or -4, -1, -7. */
+int64_t milebadger_strike(milebadger_sheet *sheet, uint32_t place);
+
+/* The answer to the equations that are held. With none, every vector is a solution.
+ *
+ * Asks     Opened? If not, -4.
+ * Needs    out_len at least the block's length. MILEBADGER_LONGEST_BLOCK is enough for every block.
+ * Writes   the answer block, as words; MILEBADGER_NUMBER(out[i]) reads their numbers. out[0] is HEAD(h).
+ *          An h above 0 is a number of vectors of n words ENTRY(x) each, one behind the other: vector i begins at
+ *          out[1 + i * n]. Vector 0 is the starting vector, the others are the steps; milebadger_solve, below, says
+ *          which they are and how each solution is written with them. Such a block can be marked as a claim as it is.
+ *          An h of 0 says that there is no solution. Behind it stands a word of kind 7 for each equation, with its
+ *          multiplier: the equations so multiplied add up mod m to coefficients that are 0 and a right side that is not.
+ *          Which multipliers, is not promised: check them, do not compare them. As a claim, take the head alone.
+ * Returns  how many words the block has: 1 + h * n, or 1 + the number of equations; or -4, -8. */
+int64_t milebadger_answer(const milebadger_sheet *sheet, uint32_t *out, size_t out_len);
+
+/* Marks a claim about the equations that are held. The words are HEAD(0) for "no solution"; or HEAD(h), h at most 17,
+ * and h times n words ENTRY(x): a starting vector and h - 1 steps. It describes the start plus every combination of the
+ * steps with coefficients 0..m-1, and passes where these vectors are the solutions, all of them and no other. Other
+ * steps than the answer's, in another order, or more than are needed, are no fault.
+ *
+ * Asks     Opened? If not, -4.  A head of at most 17 and h * n words behind it, of these kinds? If not, -1.
+ *          All entries below m? If not, -6.
+ * Returns  MILEBADGER_PASS, MILEBADGER_FAIL; or -4, -1, -6. */
+int64_t milebadger_mark(const milebadger_sheet *sheet, const uint32_t *words, size_t words_len);
+
+/* A tape of calls on one sheet, which begins unopened. A tape is words, each 4 bytes with the low byte first. The first
+ * word's kind picks a call and with it how many words the call takes; the next call begins behind them. Each call gives
+ * a line, an answer one or more; every line ends in one byte 0x0A.
+ *
+ *     words                               line               what the call does
+ *     MODULUS(m), UNKNOWNS(n)             open m n           opens the sheet: m from 2 to 65,535, n from 1 to 16, no
+ *                                                            equations
+ *     n times COEFFICIENT(a), RIGHT(b)    added k            adds an equation, 16 at most; k are then held
+ *     STRIKE                              struck k           takes the last equation off; k are then held
+ *     ANSWER                              from .., step ..   the starting vector, then each step, n entries each;
+ *                                         or none ..         or a multiplier for each equation
+ *     HEAD(h), h times n times ENTRY(x)   pass, or fail      marks a claim: h is 0 for "no solution", or counts a
+ *                                                            starting vector and its steps, 17 at most
+ *     any of these, refused               refused r          nothing; r is a number of the table below
+ *
+ * (Each name with MILEBADGER_ in front.) Multipliers are any that refute the equations: check them, do not compare them.
+ *
+ * How many words a call takes, its first word alone decides, and not the kinds of those behind it: 2, n + 1, 1, 1, and
+ * 1 + h times n. COEFFICIENT and HEAD take one word while the sheet is not opened, and so does a HEAD above 17 at any
+ * time: the words behind it are then read as calls of their own, so that one refused claim or equation can give a line
+ * for each of its words. A call that is cut short by the end of the tape is refused with 1, and so is a first word of
+ * another kind, which takes one word. Bytes left over behind the last word give `refused 9` as the last line.
+ *
+ *     refused  1  wrong shape, or an ANSWER or STRIKE with a number other than 0   5  there are 16 equations
+ *              2  m is not 2..65,535                                               6  a number is not below m
+ *              3  n is not 1..16                                                   7  no equation to strike
+ *              4  not opened                                                       9  1 to 3 bytes left over
+ *
+ * Asks     tape_len at most 65,536? If not, -10.
+ * Needs    out_len at least the length of all lines together. MILEBADGER_LINES_ROOM(tape_len) is enough for every tape.
+ *          Where there are few answers, so are MILEBADGER_LONGEST_ANSWER bytes for each ANSWER, 14 for each other call
+ *          and 10 for bytes left over.
+ * Writes   the lines.
+ * Returns  how many bytes the lines are, which may be 0; or -10, -8. */
+int64_t milebadger_tape(const uint8_t *tape, size_t tape_len, uint8_t *out, size_t out_len);
+
 /* Euclid's chain: gcd(a, 0) = a, and gcd(a, b) = gcd(b, a mod b) for b > 0; gcd(0, 0) = 0.
  *
  * Needs    out_len at least 2.
  * Writes   out[0]  the greatest common divisor of a and b;
  *          out[1]  the number of divisions made, at most 5 times the decimal digits of the smaller number plus 1.
- * Returns  1, or -8. */
+ * Returns  1; or -8. */
 int64_t milebadger_gcd(uint32_t a, uint32_t b, uint32_t *out, size_t out_len);
 
 /* One congruence a·t = b mod m.
@@ -96,57 +289,6 @@ int64_t milebadger_solve(uint32_t m, uint32_t n, const uint32_t *lines, size_t l
  *          -8. */
 int64_t milebadger_safe(uint32_t m, uint32_t rows, uint32_t columns, const uint32_t *values, size_t values_len,
                         uint32_t *out, size_t out_len);
-
-/* A tape of calls on one sheet, which begins unopened. A tape is words, each 4 bytes with the low byte first. The first
- * word's kind picks a call and with it how many words the call takes; the next call begins behind them. Each call gives
- * a line, an answer one or more; every line ends in one byte 0x0A.
- *
- *     words                               line               what the call does
- *     MODULUS(m), UNKNOWNS(n)             open m n           opens the sheet: m from 2 to 65,535, n from 1 to 16, no
- *                                                            equations
- *     n times COEFFICIENT(a), RIGHT(b)    added k            adds an equation, 16 at most; k are then held
- *     STRIKE                              struck k           takes the last equation off; k are then held
- *     ANSWER                              from .., step ..   the starting vector, then each step, n entries each;
- *                                         or none ..         or a multiplier for each equation
- *     HEAD(h), h times n times ENTRY(x)   pass, or fail      marks a claim: h is 0 for "no solution", or counts a
- *                                                            starting vector and its steps, 17 at most
- *     any of these, refused               refused r          nothing; r is a number of the table below
- *
- * (Each name with MILEBADGER_ in front.) Multipliers are any that refute the equations: check them, do not compare them.
- *
- * How many words a call takes, its first word alone decides, and not the kinds of those behind it: 2, n + 1, 1, 1, and
- * 1 + h times n. COEFFICIENT and HEAD take one word while the sheet is not opened, and so does a HEAD above 17 at any
- * time: the words behind it are then read as calls of their own, so that one refused claim or equation can give a line
- * for each of its words. A call that is cut short by the end of the tape is refused with 1, and so is a first word of
- * another kind, which takes one word. Bytes left over behind the last word give `refused 9` as the last line.
- *
- *     refused  1  wrong shape, or an ANSWER or STRIKE with a number other than 0   5  there are 16 equations
- *              2  m is not 2..65,535                                               6  a number is not below m
- *              3  n is not 1..16                                                   7  no equation to strike
- *              4  not opened                                                       9  1 to 3 bytes left over
- *
- * Asks     tape_len at most 65,536? If not, -10.
- * Needs    out_len at least the length of all lines together. MILEBADGER_LINES_ROOM(tape_len) is enough for every tape.
- *          Where there are few answers, so are MILEBADGER_LONGEST_ANSWER bytes for each ANSWER, 14 for each other call
- *          and 10 for bytes left over.
- * Writes   the lines.
- * Returns  how many bytes the lines are, which may be 0; or -10, -8. */
-int64_t milebadger_tape(const uint8_t *tape, size_t tape_len, uint8_t *out, size_t out_len);
-
-/* Words: the kind in the top 4 bits, the number in the low 28. And the number of a word.
- *
- * A number below 0 or above MILEBADGER_LARGEST_NUMBER makes a word of another kind or with another number; minus 1 mod m
- * is m - 1. In C11 and later, such a constant does not compile. Numbers that are known only when the program runs are
- * not looked at, nor any in C99 and C++. Each macro evaluates its argument once, and is a constant where that is one. */
-#define MILEBADGER_MODULUS(m) MILEBADGER_WORD(1, m)
-#define MILEBADGER_UNKNOWNS(n) MILEBADGER_WORD(2, n)
-#define MILEBADGER_COEFFICIENT(a) MILEBADGER_WORD(3, a)
-#define MILEBADGER_RIGHT(b) MILEBADGER_WORD(4, b)
-#define MILEBADGER_HEAD(h) MILEBADGER_WORD(5, h)
-#define MILEBADGER_ENTRY(x) MILEBADGER_WORD(6, x)
-#define MILEBADGER_STRIKE MILEBADGER_WORD(8, 0)
-#define MILEBADGER_ANSWER MILEBADGER_WORD(9, 0)
-#define MILEBADGER_NUMBER(word) ((uint32_t)(word) & MILEBADGER_LARGEST_NUMBER)
 
 /* A word of this kind with this number. */
 #define MILEBADGER_WORD(kind, number) \

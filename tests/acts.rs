@@ -2,17 +2,13 @@
 //! free, so they are compared by their property alone.
 #![allow(dead_code)]
 
-use crate::exercises;
-use crate::harness::{self, Act, Outcome, Reply, FILL, TAPE_BUFFER};
+use crate::exercises::{self, chance, pick};
+use crate::face::{untouched, LONGEST_BLOCK};
 use crate::ledger::{self, Call, Ledger, Said, Solved};
 use crate::random::Random;
 use crate::reference::{Answer, System};
+use crate::sheet::{Act, Desk, Outcome, Reply};
 use std::collections::BTreeSet;
-
-/// What a buffer of this length holds before an answer; the content differs from place to place.
-pub fn untouched(length: usize) -> Vec<u32> {
-    (0..length as u32).map(|place| 0xC0DE_0000 + place).collect()
-}
 
 pub fn open(m: u32, n: u32) -> Act {
     Act::Open(ledger::opening(m, n))
@@ -37,11 +33,7 @@ pub fn entering(system: &System) -> Vec<Act> {
 
 /// Why the reply is not that of a call which the reference answers so, where `before` is the ledger that it found.
 fn wrong_reply(act: &Act, reply: &Reply, said: &Said, before: &Ledger) -> Option<String> {
-    let old = match act {
-        Act::Answer(buffer) => buffer.clone(),
-        Act::AnswerFromTape(_) => vec![FILL; TAPE_BUFFER],
-        _ => vec![],
-    };
+    let old = if let Act::Answer(buffer) = act { buffer.clone() } else { vec![] };
     let expected = match (said, reply.outcome) {
         (Said::Answered(solved), outcome) => return wrong_answer(solved, outcome, &old, &reply.buffer, before),
         (Said::Opened { .. }, _) => Outcome::Holds(0),
@@ -66,7 +58,7 @@ fn wrong_answer(solved: &Solved, outcome: Outcome, old: &[u32], buffer: &[u32], 
             }
             ledger::wrong_block(system, &buffer[..length])
         }
-        Outcome::Refused(8) if *solved == Solved::Unknown && old.len() < TAPE_BUFFER && buffer == old => None,
+        Outcome::Refused(8) if *solved == Solved::Unknown && old.len() < LONGEST_BLOCK && buffer == old => None,
         _ => Some(format!("{outcome:?} where {solved:?} is the answer")),
     }
 }
@@ -74,31 +66,44 @@ fn wrong_answer(solved: &Solved, outcome: Outcome, old: &[u32], buffer: &[u32], 
 /// Which call was refused with which number.
 pub type Tally = BTreeSet<(&'static str, u32)>;
 
-/// Every call of the list does what the reference says. The refusals go to the tally.
+/// "Questions, in order, and the number when the answer is no": every refusal that a direct call can give.
+pub fn all_refusals() -> Tally {
+    let refusals: [(&str, &[u32]); 5] =
+        [("open", &[1, 2, 3]), ("add", &[4, 1, 5, 6]), ("strike", &[4, 1, 7]), ("answer", &[4, 8]), ("mark", &[4, 1, 6])];
+    refusals.iter().flat_map(|(name, numbers)| numbers.iter().map(|&number| (*name, number))).collect()
+}
+
+/// Makes a call on a sheet that reads as this ledger, and in the ledger. It does what the reference says, or it is said why not. A
+/// refusal goes to the tally.
+pub fn step(desk: &mut Desk, ledger: &mut Ledger, act: &Act, tally: &mut Tally) -> Result<Reply, String> {
+    let call = match act {
+        Act::Open(words) => Call::Open(words.clone()),
+        Act::Add(words) => Call::Add(words.clone()),
+        Act::Strike(place) => Call::Strike(*place),
+        Act::Answer(buffer) => Call::Answer(buffer.len()),
+        Act::Mark(words) => Call::Mark(words.clone()),
+        Act::MarkBlock => Call::Mark(desk.block().to_vec()),
+    };
+    let before = ledger.clone();
+    let said = ledger.run(&call);
+    let reply = desk.act(act)?;
+    if let Some(why) = wrong_reply(act, &reply, &said, &before) {
+        return Err(format!("{why}, ledger {before:?}"));
+    }
+    if let Said::Refused(number) = said {
+        tally.insert((call.name(), number));
+    }
+    Ok(reply)
+}
+
+/// Every call of the list, the first of them on a fresh sheet, does what the reference says. The refusals go to the tally.
 pub fn expect(acts: &[Act], seed: u64, tally: &mut Tally) -> Vec<Reply> {
-    let replies = harness::run(acts);
-    let (mut sheet, mut block) = (Ledger::Unopened, vec![]);
-    for (place, (act, reply)) in acts.iter().zip(&replies).enumerate() {
-        let call = match act {
-            Act::Open(words) => Call::Open(words.clone()),
-            Act::Add(words) => Call::Add(words.clone()),
-            Act::Strike => Call::Strike,
-            Act::Answer(buffer) => Call::Answer(buffer.len()),
-            Act::Mark(words) => Call::Mark(words.clone()),
-            Act::MarkBlock => Call::Mark(block.clone()),
-            Act::StrikeFromTape(word) => Call::StrikeFromTape(*word),
-            Act::AnswerFromTape(word) => Call::AnswerFromTape(*word),
-        };
-        let before = sheet.clone();
-        let said = sheet.run(&call);
-        if let Some(why) = wrong_reply(act, reply, &said, &before) {
-            panic!("call {place}, {act:x?}: {why} (seed {seed})\nledger: {before:?}\nscript: {acts:x?}");
-        }
-        if let Said::Refused(number) = said {
-            tally.insert((call.name(), number));
-        }
-        if let Outcome::Wrote(length) = reply.outcome {
-            block = reply.buffer[..length].to_vec();
+    let (mut desk, mut ledger) = (Desk::fresh(), Ledger::Unopened);
+    let mut replies = vec![];
+    for (place, act) in acts.iter().enumerate() {
+        match step(&mut desk, &mut ledger, act, tally) {
+            Ok(reply) => replies.push(reply),
+            Err(why) => panic!("call {place}, {act:x?}: {why} (seed {seed})\ncalls: {acts:x?}"),
         }
     }
     replies
@@ -112,6 +117,12 @@ pub fn outcomes(acts: &[Act]) -> Vec<Outcome> {
 /// The outcome of the last call of such a list.
 pub fn last(acts: &[Act]) -> Outcome {
     *outcomes(acts).last().unwrap()
+}
+
+/// The numbers of the block that an answer wrote.
+pub fn answered(reply: &Reply) -> Vec<u32> {
+    let Outcome::Wrote(length) = reply.outcome else { panic!("{:?}", reply.outcome) };
+    reply.buffer[..length].iter().map(|&word| ledger::number(word)).collect()
 }
 
 /// A sheet for which all vectors can be tried, with some equations.
@@ -143,5 +154,59 @@ pub fn random_unsolvable(random: &mut Random) -> System {
         if ledger::solve(&system) == Solved::Nothing {
             return system;
         }
+    }
+}
+
+/// A sheet that has too many vectors to try, in most cases. Where its right sides are made to fit, it has a solution.
+pub fn full_size_system(random: &mut Random, fits: bool) -> System {
+    let m = pick(random, &[2, 3, 4, 12, 60, 30_030, 32_768, 65_521, 65_535]);
+    let n = pick(random, &[5, 8, 15, 16]);
+    let solution: Vec<u32> = (0..n).map(|_| random.below(m as u64) as u32).collect();
+    let mut system = System { m, n, equations: vec![] };
+    for _ in 0..random.below(17) {
+        let mut equation: Vec<u32> = (0..n).map(|_| if chance(random, 2) { 0 } else { random.below(m as u64) as u32 }).collect();
+        let right: u64 = equation.iter().zip(&solution).map(|(&a, &x)| a as u64 * x as u64).sum();
+        equation.push(if fits { (right % m as u64) as u32 } else { random.below(m as u64) as u32 });
+        system.equations.push(equation);
+    }
+    system
+}
+
+/// A call on a sheet that reads as this ledger. A sheet that is being filled gets many equations.
+pub fn random_act(random: &mut Random, ledger: &Ledger, filling: bool) -> Act {
+    let unopened = System { m: 7, n: 2, equations: vec![] };
+    let system = if let Ledger::Opened(system) = ledger { system } else { &unopened };
+    let choice = random.below(if filling { 60 } else { 24 });
+    match choice {
+        0 => Act::Open(exercises::opening(random)),
+        1 if *ledger == Ledger::Unopened => Act::Open(exercises::opening(random)),
+        1..=3 => Act::Strike(0),
+        4 => Act::Strike(place(random)),
+        5..=9 => answer(buffer_length(random, system)),
+        10..=11 => Act::MarkBlock,
+        12..=17 => Act::Mark(exercises::claim(random, system)),
+        _ => Act::Add(exercises::equation(random, system)),
+    }
+}
+
+/// Places at which there is never anything to strike; as the number of a word, some of them would be 0.
+pub const WRONG_PLACES: [u32; 6] = [1, 15, 1 << 16, 1 << 28, 8 << 28, u32::MAX];
+
+fn place(random: &mut Random) -> u32 {
+    match random.below(4) {
+        0 => 0,
+        1 => random.bits() as u32,
+        _ => pick(random, &WRONG_PLACES),
+    }
+}
+
+/// Exactly as long as the block, one word shorter, somewhat longer, or any length.
+fn buffer_length(random: &mut Random, system: &System) -> usize {
+    let exact = ledger::block_length(system).unwrap_or(LONGEST_BLOCK);
+    match random.below(6) {
+        0 => exact - 1,
+        1 => random.below(LONGEST_BLOCK as u64 + 3) as usize,
+        2 => exact + 1 + random.below(4) as usize,
+        _ => exact,
     }
 }

@@ -1,55 +1,20 @@
 //! Lists of direct calls on a sheet: any at all, and those at the limits of a sheet, of a call's words and of a buffer.
 mod acts;
 mod exercises;
-mod harness;
+mod face;
 mod ledger;
 mod random;
 mod reference;
+mod sheet;
 
-use acts::{add, answer, entering, expect, last, mark, open, outcomes, random_system, untouched, Tally};
-use exercises::{chance, pick};
-use harness::{Act, Outcome, TAPE_BUFFER};
+use acts::{add, all_refusals, answer, answered, entering, expect, full_size_system, last, mark, open, outcomes};
+use acts::{random_act, random_system, Tally, WRONG_PLACES};
+use exercises::chance;
+use face::LONGEST_BLOCK;
 use ledger::{Call, Ledger};
 use random::Random;
 use reference::System;
-
-/// A call on a sheet that reads as this ledger. A sheet that is being filled gets many equations.
-fn random_act(random: &mut Random, sheet: &Ledger, filling: bool) -> Act {
-    let unopened = System { m: 7, n: 2, equations: vec![] };
-    let system = if let Ledger::Opened(system) = sheet { system } else { &unopened };
-    let choice = random.below(if filling { 60 } else { 24 });
-    match choice {
-        0 => Act::Open(exercises::opening(random)),
-        1 if matches!(sheet, Ledger::Unopened) => Act::Open(exercises::opening(random)),
-        1..=3 => Act::Strike,
-        4 => Act::StrikeFromTape(tape_word(random, ledger::STRIKE)),
-        5 => Act::AnswerFromTape(tape_word(random, ledger::ANSWER)),
-        6..=9 => Act::Answer(untouched(buffer_length(random, system))),
-        10..=11 => Act::MarkBlock,
-        12..=17 => Act::Mark(exercises::claim(random, system)),
-        _ => Act::Add(exercises::equation(random, system)),
-    }
-}
-
-/// A strike or answer word; its number should be 0, and its kind was read by whoever picked the call.
-fn tape_word(random: &mut Random, kind: u32) -> u32 {
-    match random.below(4) {
-        0 => ledger::word(kind, pick(random, &[1, 1 << 16, 1 << 27, (1 << 28) - 1])),
-        1 => random.bits() as u32,
-        _ => ledger::word(kind, 0),
-    }
-}
-
-/// Exactly as long as the block, one word shorter, somewhat longer, or any length.
-fn buffer_length(random: &mut Random, system: &System) -> usize {
-    let exact = ledger::block_length(system).unwrap_or(TAPE_BUFFER);
-    match random.below(6) {
-        0 => exact - 1,
-        1 => random.below(TAPE_BUFFER as u64 + 3) as usize,
-        2 => exact + 1 + random.below(4) as usize,
-        _ => exact,
-    }
-}
+use sheet::{Act, Outcome};
 
 fn random_acts(random: &mut Random, count: usize) -> Vec<Act> {
     let filling = chance(random, 4);
@@ -62,26 +27,13 @@ fn random_acts(random: &mut Random, count: usize) -> Vec<Act> {
         match &act {
             Act::Open(words) => drop(sheet.run(&Call::Open(words.clone()))),
             Act::Add(words) => drop(sheet.run(&Call::Add(words.clone()))),
-            Act::Strike => drop(sheet.run(&Call::Strike)),
-            Act::StrikeFromTape(word) => drop(sheet.run(&Call::StrikeFromTape(*word))),
+            Act::Strike(place) => drop(sheet.run(&Call::Strike(*place))),
             _ => {}
         }
         acts.push(act);
     }
     acts
 }
-
-/// "Questions, in order, and the number when the answer is no": every refusal that each direct call can give, and the strike and
-/// the answer from tape.
-const REFUSALS: [(&str, &[u32]); 7] = [
-    ("open", &[1, 2, 3]),
-    ("add", &[4, 1, 5, 6]),
-    ("strike", &[4, 7]),
-    ("answer", &[4, 8]),
-    ("mark", &[4, 1, 6]),
-    ("strike from tape", &[4, 1, 7]),
-    ("answer from tape", &[4, 1]),
-];
 
 #[test]
 fn random_lists_of_calls_do_what_the_paper_says_and_every_call_meets_its_refusals() {
@@ -92,8 +44,7 @@ fn random_lists_of_calls_do_what_the_paper_says_and_every_call_meets_its_refusal
         let acts = random_acts(&mut random, count);
         expect(&acts, random.seed, &mut tally);
     }
-    let all: Tally = REFUSALS.iter().flat_map(|(name, numbers)| numbers.iter().map(|&number| (*name, number))).collect();
-    assert_eq!(tally, all, "refusals seen, and refusals to be seen");
+    assert_eq!(tally, all_refusals(), "refusals seen, and refusals to be seen");
 }
 
 #[test]
@@ -161,7 +112,7 @@ fn a_full_sheet_refuses_with_5_after_shape_and_before_numbers() {
         (vec![], 1),
         (vec![ledger::word(ledger::COEFFICIENT, 3), ledger::word(ledger::ENTRY, 3)], 1),
     ] {
-        let more = [acts.clone(), vec![Act::Add(words.clone()), answer(3), Act::Strike, add(&[1, 2]), answer(3)]].concat();
+        let more = [acts.clone(), vec![Act::Add(words.clone()), answer(3), Act::Strike(0), add(&[1, 2]), answer(3)]].concat();
         let found = outcomes(&more);
         let expected = [Outcome::Refused(number), Outcome::Wrote(2), Outcome::Holds(15), Outcome::Holds(16), Outcome::Wrote(2)];
         assert_eq!(found[17..], expected, "{words:x?}");
@@ -181,11 +132,25 @@ fn a_refused_opening_keeps_the_sheet_and_an_accepted_one_empties_it() {
             let count = replies.len();
             assert_eq!(replies[count - 1], replies[count - 3], "{system:?}, {words:x?} (seed {})", random.seed);
         }
-        let acts = [entering(&system), vec![open(7, 2), answer(7), Act::Strike]].concat();
+        let acts = [entering(&system), vec![open(7, 2), answer(7), Act::Strike(0)]].concat();
         let found = outcomes(&acts);
         let expected = [Outcome::Holds(0), Outcome::Wrote(7), Outcome::Refused(7)];
         assert_eq!(found[found.len() - 3..], expected, "{system:?} (seed {})", random.seed);
     }
+}
+
+#[test]
+fn a_strike_asks_for_an_opened_sheet_then_for_place_0_then_for_an_equation() {
+    let places: Vec<u32> = (0..32).map(|bit| 1 << bit).chain(WRONG_PLACES).collect();
+    for place in places {
+        assert_eq!(last(&[Act::Strike(place)]), Outcome::Refused(4), "{place:x}");
+        assert_eq!(last(&[open(5, 2), Act::Strike(place)]), Outcome::Refused(1), "{place:x}");
+        let acts = [open(5, 2), add(&[1, 2, 3]), Act::Strike(place), Act::Strike(0), Act::Strike(place), Act::Strike(0)];
+        let expected = [Outcome::Refused(1), Outcome::Holds(0), Outcome::Refused(1), Outcome::Refused(7)];
+        assert_eq!(outcomes(&acts)[2..], expected, "{place:x}");
+    }
+    let expected = [Outcome::Refused(4), Outcome::Holds(0), Outcome::Refused(7)];
+    assert_eq!(outcomes(&[Act::Strike(0), open(5, 2), Act::Strike(0)]), expected);
 }
 
 #[test]
@@ -194,16 +159,16 @@ fn strikes_bring_back_every_earlier_answer() {
     for _ in 0..150 {
         let (m, n) = exercises::small_shape(&mut random);
         let mut system = System { m, n: n as usize, equations: vec![] };
-        let mut acts = vec![open(m, n), answer(TAPE_BUFFER)];
+        let mut acts = vec![open(m, n), answer(LONGEST_BLOCK)];
         for _ in 0..16 {
             let words = (0..=n).map(|_| random.below(m as u64) as u32).collect::<Vec<u32>>();
-            acts.extend([add(&words), answer(TAPE_BUFFER)]);
+            acts.extend([add(&words), answer(LONGEST_BLOCK)]);
             system.equations.push(words);
         }
         for _ in 0..16 {
-            acts.extend([Act::Strike, answer(TAPE_BUFFER)]);
+            acts.extend([Act::Strike(0), answer(LONGEST_BLOCK)]);
         }
-        acts.push(Act::Strike);
+        acts.push(Act::Strike(0));
         let replies = expect(&acts, random.seed, &mut Tally::new());
         for held in 0..16 {
             let (up, down) = (&replies[2 * held + 1], &replies[65 - 2 * held]);
@@ -229,27 +194,30 @@ fn a_buffer_is_long_enough_exactly_when_the_block_fits() {
     }
 }
 
+/// The numbers of the block from milebadger_solve, whose blocks of this size the tests of systems look into.
+fn solved(system: &System) -> Vec<u32> {
+    let reply = face::solve(system.m, system.n as u32, &system.lines(), LONGEST_BLOCK);
+    reply.memory[..usize::try_from(reply.result).expect("a refusal")].to_vec()
+}
+
 #[test]
 fn full_size_sheets_are_answered_soundly_and_their_own_block_passes() {
     let mut random = Random::new();
     let (mut solvable, mut unsolvable) = (0, 0);
     for round in 0..120 {
-        let m = pick(&mut random, &[2, 3, 4, 12, 60, 30_030, 32_768, 65_521, 65_535]);
-        let n = pick(&mut random, &[5, 8, 15, 16]);
-        let solution: Vec<u32> = (0..n).map(|_| random.below(m as u64) as u32).collect();
-        let mut system = System { m, n: n as usize, equations: vec![] };
-        for _ in 0..random.below(17) {
-            let mut equation: Vec<u32> =
-                (0..n).map(|_| if chance(&mut random, 2) { 0 } else { random.below(m as u64) as u32 }).collect();
-            let right: u64 = equation.iter().zip(&solution).map(|(&a, &x)| a as u64 * x as u64).sum();
-            equation.push(if round % 3 == 0 { random.below(m as u64) as u32 } else { (right % m as u64) as u32 });
-            system.equations.push(equation);
-        }
-        let acts = [entering(&system), vec![answer(TAPE_BUFFER), Act::MarkBlock, mark(&[])]].concat();
+        let system = full_size_system(&mut random, round % 3 != 0);
+        let acts = [entering(&system), vec![answer(LONGEST_BLOCK), Act::MarkBlock, mark(&[])]].concat();
         let replies = expect(&acts, random.seed, &mut Tally::new());
+        let length = answered(&replies[replies.len() - 3]).len();
+        let fitting = outcomes(&[entering(&system), vec![answer(length), answer(length - 1)]].concat());
+        let expected = [Outcome::Wrote(length), Outcome::Refused(8)];
+        assert_eq!(fitting[fitting.len() - 2..], expected, "{system:?} (seed {})", random.seed);
         let outcomes: Vec<Outcome> = replies.iter().rev().take(2).map(|reply| reply.outcome).collect();
         match outcomes[..] {
-            [Outcome::Fail, Outcome::Pass] => solvable += 1,
+            [Outcome::Fail, Outcome::Pass] => {
+                assert_eq!(answered(&replies[replies.len() - 3]), solved(&system), "{system:?} (seed {})", random.seed);
+                solvable += 1;
+            }
             [Outcome::Pass, Outcome::Refused(1)] if round % 3 == 0 => unsolvable += 1,
             _ => panic!("{system:?}: {outcomes:?} (seed {})", random.seed),
         }

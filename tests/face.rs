@@ -1,8 +1,9 @@
-//! The calls of include/milebadger.h as Rust sees them. Each gets memory with a guard on both sides, filled with numbers
-//! that differ from place to place, so that a number written, moved or cleared anywhere shows.
+//! The calls of include/milebadger.h that have no sheet, as Rust sees them. Each gets memory with a guard on both sides, filled
+//! with numbers that differ from place to place, so that a number written, moved or cleared anywhere shows.
 #![allow(dead_code)]
 
 extern "C" {
+    fn milebadger_version() -> u32;
     fn milebadger_gcd(a: u32, b: u32, out: *mut u32, out_len: usize) -> i64;
     fn milebadger_congruence(a: u32, b: u32, m: u32, out: *mut u32, out_len: usize) -> i64;
     fn milebadger_solve(m: u32, n: u32, lines: *const u32, lines_len: usize, out: *mut u32, out_len: usize) -> i64;
@@ -45,8 +46,8 @@ pub fn writing(result: i64, numbers: &[u32], len: usize) -> Reply {
     Reply { result, memory }
 }
 
-const GUARD: u32 = 0xFACE_FACE;
-const GUARDS: usize = 4;
+pub const GUARD: u32 = 0xFACE_FACE;
+pub const GUARDS: usize = 4;
 
 fn lend(len: usize, call: impl FnOnce(*mut u32, usize) -> i64) -> Reply {
     let mut all = vec![GUARD; GUARDS];
@@ -56,6 +57,10 @@ fn lend(len: usize, call: impl FnOnce(*mut u32, usize) -> i64) -> Reply {
     assert_eq!(all[..GUARDS], [GUARD; GUARDS], "written in front of the lent memory");
     assert_eq!(all[GUARDS + len..], [GUARD; GUARDS], "written behind the lent memory");
     Reply { result, memory: all[GUARDS..GUARDS + len].to_vec() }
+}
+
+pub fn version() -> u32 {
+    unsafe { milebadger_version() }
 }
 
 pub fn gcd(a: u32, b: u32, len: usize) -> Reply {

@@ -1,5 +1,6 @@
-/* include/milebadger.h compiles without a warning; its words are constants, and take numbers that are known only later. With
- * -DNUMBER=.. for a number that is no word's, it does not compile in C11. */
+/* include/milebadger.h compiles without a warning; its words are constants, and take numbers that are known only later; its
+ * refusals are constants too, and a sheet has the size that the library takes. With -DNUMBER=.. for a number that is no word's, it
+ * does not compile in C11. */
 #include "milebadger.h"
 
 #ifndef NUMBER
@@ -17,6 +18,12 @@ static uint8_t lines[MILEBADGER_LINES_ROOM(sizeof words)];
 /* One word, and bytes left over. */
 typedef char room[MILEBADGER_LINES_ROOM(7) == MILEBADGER_LONGEST_ANSWER + 10 ? 1 : -1];
 
+typedef char size[sizeof(milebadger_sheet) == 1164 ? 1 : -1];
+
+#if MILEBADGER_VERSION < 10000 || MILEBADGER_REFUSED_TAPE != -10
+#error "names that the preprocessor cannot read"
+#endif
+
 /* Words of numbers that are known only here: bytes, one after the other, and two that have a sign. */
 int64_t run_later(const uint8_t *bytes, int i, int64_t l);
 
@@ -27,4 +34,43 @@ int64_t run_later(const uint8_t *bytes, int i, int64_t l)
     for (size_t j = 0; j < sizeof words / sizeof *words; j++)
         word ^= words[j];
     return milebadger_tape(bytes, MILEBADGER_NUMBER(word) % MILEBADGER_LONGEST_TAPE, lines, sizeof lines);
+}
+
+/* A fresh sheet, a copy of it, and every call on them. */
+const char *sheet_later(uint32_t *out, size_t out_len);
+
+const char *sheet_later(uint32_t *out, size_t out_len)
+{
+    milebadger_sheet sheet = {0}, copy = sheet;
+    int64_t result = milebadger_version() == MILEBADGER_VERSION ? milebadger_open(&sheet, words, 2) : 0;
+    result += milebadger_add(&sheet, words + 2, 2) + milebadger_strike(&copy, 0);
+    result += milebadger_answer(&copy, out, out_len);
+    if (milebadger_mark(&sheet, out, out_len) == MILEBADGER_PASS)
+        return milebadger_sentence(result);
+    return milebadger_sentence(MILEBADGER_FAIL);
+}
+
+/* Every result has a case of its own. */
+int kinds_of_results(int64_t result);
+
+int kinds_of_results(int64_t result)
+{
+    switch (result) {
+    case MILEBADGER_PASS:
+    case MILEBADGER_FAIL:
+        return 0;
+    case MILEBADGER_REFUSED_SHAPE:
+    case MILEBADGER_REFUSED_MODULUS:
+    case MILEBADGER_REFUSED_UNKNOWNS:
+    case MILEBADGER_REFUSED_UNOPENED:
+    case MILEBADGER_REFUSED_FULL:
+    case MILEBADGER_REFUSED_NUMBER:
+    case MILEBADGER_REFUSED_NOTHING_TO_STRIKE:
+    case MILEBADGER_REFUSED_BUFFER:
+    case MILEBADGER_REFUSED_LEFT_OVER:
+    case MILEBADGER_REFUSED_TAPE:
+        return 1;
+    default:
+        return 2;
+    }
 }

@@ -75,31 +75,27 @@ fn is_claim(n: usize, words: &[u32]) -> bool {
     }
 }
 
-/// A call with its arguments other than the sheet: made directly, or from tape. An answer has the length of its buffer.
+/// A call with its arguments other than the sheet. A strike has its place, which is its word's number on tape; an answer has the
+/// length of its buffer, or its word on tape.
 #[derive(Clone, Debug, PartialEq)]
 pub enum Call {
     Open(Vec<u32>),
     Add(Vec<u32>),
-    Strike,
+    Strike(u32),
     Answer(usize),
     Mark(Vec<u32>),
-    StrikeFromTape(u32),
     AnswerFromTape(u32),
     Meaningless(u32),
 }
 
 impl Call {
-    pub const NAMES: [&'static str; 8] =
-        ["open", "add", "strike", "answer", "mark", "strike from tape", "answer from tape", "meaningless word"];
-
     pub fn name(&self) -> &'static str {
         match self {
             Call::Open(_) => "open",
             Call::Add(_) => "add",
-            Call::Strike => "strike",
+            Call::Strike(_) => "strike",
             Call::Answer(_) => "answer",
             Call::Mark(_) => "mark",
-            Call::StrikeFromTape(_) => "strike from tape",
             Call::AnswerFromTape(_) => "answer from tape",
             Call::Meaningless(_) => "meaningless word",
         }
@@ -162,7 +158,7 @@ pub fn described(m: u32, vectors: &[Vec<u32>]) -> BTreeSet<Vec<u32>> {
 }
 
 /// 'The ledger is "unopened", or m, n and a list of equations.'
-#[derive(Clone, Debug)]
+#[derive(Clone, Debug, PartialEq)]
 pub enum Ledger {
     Unopened,
     Opened(System),
@@ -185,7 +181,7 @@ impl Ledger {
                 system.equations.push(numbers(words));
                 Said::Added(system.equations.len())
             }
-            (Call::Strike | Call::StrikeFromTape(_), Ledger::Opened(system)) => {
+            (Call::Strike(_), Ledger::Opened(system)) => {
                 system.equations.pop();
                 Said::Struck(system.equations.len())
             }
@@ -200,8 +196,7 @@ impl Ledger {
         let questions: &[u32] = match call {
             Call::Open(_) => &[1, 2, 3],
             Call::Add(_) => &[4, 1, 5, 6],
-            Call::Strike => &[4, 7],
-            Call::StrikeFromTape(_) => &[4, 1, 7],
+            Call::Strike(_) => &[4, 1, 7],
             Call::Answer(_) => &[4, 8],
             Call::AnswerFromTape(_) => &[4, 1],
             Call::Mark(_) => &[4, 1, 6],
@@ -224,8 +219,9 @@ impl Ledger {
             (1, Call::Add(words)) => is_equation(system().n, words),
             (5, Call::Add(_)) => system().equations.len() < 16,
             (6, Call::Add(words)) => words.iter().all(|&w| number(w) < system().m),
-            (1, Call::StrikeFromTape(word) | Call::AnswerFromTape(word)) => number(*word) == 0,
-            (7, Call::Strike | Call::StrikeFromTape(_)) => !system().equations.is_empty(),
+            (1, Call::Strike(place)) => *place == 0,
+            (1, Call::AnswerFromTape(word)) => number(*word) == 0,
+            (7, Call::Strike(_)) => !system().equations.is_empty(),
             (8, Call::Answer(length)) => block_length(system()).is_none_or(|block| block <= *length),
             (1, Call::Mark(words)) => is_claim(system().n, words),
             (6, Call::Mark(words)) => words[1..].iter().all(|&w| number(w) < system().m),

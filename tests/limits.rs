@@ -1,15 +1,20 @@
-//! The limits that include/milebadger.h names: each is reached, and what is above it is refused.
+//! The numbers that include/milebadger.h names: each limit is reached, and what is above it is refused; the version is that of the
+//! archive, and a sheet has the size that the tests take it to have.
 mod face;
 mod ledger;
 mod reference;
+mod sheet;
 mod tape;
 
 use ledger::{equation, opening, word, ANSWER, ENTRY, HEAD};
+use sheet::{Act, Desk, Outcome, Sheet};
+
+const HEADER: &str = include_str!("../include/milebadger.h");
 
 /// The number that the header has for a limit.
 fn limit(name: &str) -> usize {
     let define = format!("#define MILEBADGER_{name} ");
-    let rest = include_str!("../include/milebadger.h").lines().find_map(|line| line.strip_prefix(&define)).expect(name);
+    let rest = HEADER.lines().find_map(|line| line.strip_prefix(&define)).expect(name);
     let number = rest.split(' ').next().unwrap();
     match number.strip_prefix("0x") {
         Some(digits) => usize::from_str_radix(digits, 16).unwrap(),
@@ -27,6 +32,37 @@ fn lines(words: &[u32]) -> String {
     let reply = face::tape(&tape::bytes(words), room(4 * words.len()));
     let written = usize::try_from(reply.result).expect("a refusal");
     String::from_utf8(reply.memory[..written].to_vec()).unwrap()
+}
+
+#[test]
+fn the_archive_has_the_version_of_the_header() {
+    assert_eq!(face::version() as usize, limit("VERSION"));
+    assert_eq!(face::version(), 10_000, "1.0.0");
+}
+
+#[test]
+fn a_sheet_has_as_many_numbers_as_the_header_says() {
+    let (_, behind) = HEADER.split_once("uint32_t numbers[").expect("numbers");
+    let (count, _) = behind.split_once(']').unwrap();
+    assert_eq!(size_of::<Sheet>(), 4 * count.parse::<usize>().unwrap());
+    assert_eq!(size_of::<Sheet>(), 1_164);
+}
+
+#[test]
+fn a_sheet_goes_as_far_as_the_header_says() {
+    let (m, n, k) = (limit("LARGEST_MODULUS") as u32, limit("MOST_UNKNOWNS"), limit("MOST_EQUATIONS"));
+    let (mut desk, longest) = (Desk::fresh(), limit("LONGEST_BLOCK"));
+    let mut outcome = |act: Act| desk.act(&act).unwrap().outcome;
+    assert_eq!(outcome(Act::Open(opening(m + 1, n as u32))), Outcome::Refused(2));
+    assert_eq!(outcome(Act::Open(opening(m, n as u32 + 1))), Outcome::Refused(3));
+    assert_eq!(outcome(Act::Open(opening(m, n as u32))), Outcome::Holds(0));
+    assert_eq!(outcome(Act::Answer(face::untouched(longest - 1))), Outcome::Refused(8));
+    assert_eq!(outcome(Act::Answer(face::untouched(longest))), Outcome::Wrote(longest));
+    assert_eq!(outcome(Act::MarkBlock), Outcome::Pass);
+    for held in 1..=k {
+        assert_eq!(outcome(Act::Add(equation(&vec![m - 1; n + 1]))), Outcome::Holds(held));
+    }
+    assert_eq!(outcome(Act::Add(equation(&vec![m - 1; n + 1]))), Outcome::Refused(5));
 }
 
 #[test]

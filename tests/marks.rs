@@ -1,14 +1,18 @@
 //! Claims that are marked on a sheet: right in every form, changed, short of a step, and of a sheet without solution.
 mod acts;
 mod exercises;
-mod harness;
+mod face;
 mod ledger;
 mod random;
 mod reference;
+mod sheet;
 
-use acts::{add, answer, entering, last, mark, open, outcomes, random_solvable, random_unsolvable};
-use harness::{Act, Outcome};
+use acts::{add, answer, answered, entering, expect, full_size_system, last, mark, open, outcomes};
+use acts::{random_solvable, random_unsolvable, Tally};
+use face::LONGEST_BLOCK;
 use random::Random;
+use reference::{Answer, System};
+use sheet::{Act, Outcome};
 
 #[test]
 fn claims_that_are_right_in_another_form_pass() {
@@ -125,4 +129,42 @@ fn the_block_of_a_sheet_without_solution_is_no_claim() {
         let expected = [Outcome::Wrote(length), Outcome::Refused(1), Outcome::Pass];
         assert_eq!(outcomes[outcomes.len() - 3..], expected, "{system:?} (seed {})", random.seed);
     }
+}
+
+/// The answer that a sheet with these equations writes.
+fn answer_of(system: &System, seed: u64) -> Answer {
+    let replies = expect(&[entering(system), vec![answer(LONGEST_BLOCK)]].concat(), seed, &mut Tally::new());
+    let block = answered(replies.last().unwrap());
+    let mut vectors = block[1..].chunks(system.n).map(|v| v.to_vec());
+    Answer { start: vectors.next().unwrap(), steps: vectors.collect() }
+}
+
+#[test]
+fn full_size_claims_pass_in_another_form_and_fail_where_they_miss_something() {
+    let mut random = Random::new();
+    let (mut elsewhere, mut short) = (0, 0);
+    for _ in 0..150 {
+        let (system, seed) = (full_size_system(&mut random, true), random.seed);
+        let found = answer_of(&system, seed);
+        let expect = |claim: &[Vec<u32>], outcome: Outcome| {
+            let acts = [entering(&system), vec![mark(claim)]].concat();
+            assert_eq!(last(&acts), outcome, "{system:?}: {claim:?} (seed {seed})");
+        };
+        let right = exercises::right_claim(&mut random, system.m, &found);
+        expect(&right, Outcome::Pass);
+        let mut claim = right.clone();
+        claim[0][system.n - 1] = random.below(system.m as u64) as u32;
+        if !system.solved_by(&claim[0]) {
+            expect(&claim, Outcome::Fail);
+            elsewhere += 1;
+        }
+        // where m is prime, no step follows from the others
+        if [2, 3, 65_521].contains(&system.m) && !found.steps.is_empty() {
+            let mut claim = ledger::vectors_of(&found);
+            claim.remove(1 + found.steps.len() / 2);
+            expect(&claim, Outcome::Fail);
+            short += 1;
+        }
+    }
+    assert!(elsewhere > 50 && short > 20, "{elsewhere} with another start, {short} a step short");
 }

@@ -70,7 +70,7 @@ fn an_equation_that_leaves_no_solution_is_struck_again() {
     assert_eq!(sheet.run(&Call::Answer(3)), Said::Refused(8));
     assert!(system(6, 1, &[&[2, 4], &[3, 3], &[1, 0]]).refuted_by(&[0, 1, 3]));
     assert_eq!(claimed(&mut sheet, &[]), Said::Passed);
-    assert_eq!(sheet.run(&Call::Strike), Said::Struck(2));
+    assert_eq!(sheet.run(&Call::Strike(0)), Said::Struck(2));
     assert_eq!(sheet.run(&Call::Answer(2)), Said::Answered(from(&[5], &[])));
     assert_eq!(sheet.run(&Call::Answer(1)), Said::Refused(8));
 }

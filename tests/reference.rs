@@ -77,7 +77,7 @@ pub fn congruence(a: u32, b: u32, m: u32) -> Congruence {
 }
 
 /// A list of equations mod m in n unknowns; an equation is n coefficients and a right side.
-#[derive(Clone, Debug)]
+#[derive(Clone, Debug, PartialEq)]
 pub struct System {
     pub m: u32,
     pub n: usize,

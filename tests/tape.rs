@@ -32,7 +32,7 @@ pub fn first_call(ledger: &Ledger, words: &[u32]) -> (Call, usize) {
         MODULUS => Call::Open(own),
         COEFFICIENT => Call::Add(own),
         HEAD => Call::Mark(own),
-        STRIKE => Call::StrikeFromTape(words[0]),
+        STRIKE => Call::Strike(number),
         ANSWER => Call::AnswerFromTape(words[0]),
         _ => Call::Meaningless(words[0]),
     };

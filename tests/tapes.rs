@@ -117,7 +117,7 @@ fn boundary_word(random: &mut Random) -> u32 {
 const REFUSALS: [(&str, &[u32]); 7] = [
     ("open", &[1, 2, 3]),
     ("add", &[4, 1, 5, 6]),
-    ("strike from tape", &[4, 1, 7]),
+    ("strike", &[4, 1, 7]),
     ("answer from tape", &[4, 1]),
     ("mark", &[4, 1, 6]),
     ("meaningless word", &[1]),
@@ -202,6 +202,17 @@ fn random_words_and_random_bytes_print_their_lines() {
 fn a_tape_is_cut_into_calls_as_the_paper_says() {
     for (words, lines) in tape::readings() {
         assert_eq!(expect(&tape::bytes(&words), 0, &mut Tally::new()), lines, "{words:x?}");
+    }
+}
+
+#[test]
+fn a_strike_and_an_answer_have_number_0_in_all_28_bits() {
+    for bit in 0..28 {
+        let calls = [ledger::word(ledger::STRIKE, 1 << bit), ledger::word(ledger::ANSWER, 1 << bit)];
+        let (open, add) = (ledger::opening(3, 1), ledger::equation(&[1, 2]));
+        let words = [&calls[..], &open, &calls, &add, &calls, &[9 << 28, 8 << 28]].concat();
+        let lines = "refused 4\nrefused 4\nopen 3 1\nrefused 1\nrefused 1\nadded 1\nrefused 1\nrefused 1\nfrom 2\nstruck 0\n";
+        assert_eq!(expect(&tape::bytes(&words), 0, &mut Tally::new()), lines, "bit {bit}");
     }
 }
 

@@ -6,7 +6,7 @@ ghost use lib.ListN.{length, take};
 ghost use Rattle.slices.specs.Over.{over};
 ghost use Rattle.words.specs.Words.{wordsIn, numbersOf};
 ghost use Rattle.ledger.specs.Ledger.{Ledger, unopened, mostUnknowns};
-ghost use Rattle.ledger.specs.Calls.{opens, adds, strikes, strikesFromTape, enters};
+ghost use Rattle.ledger.specs.Calls.{opens, adds, strikes, enters};
 ghost use Rattle.ledger.specs.Questions.{refusalOf};
 ghost use Rattle.asking.specs.Sees.{Sees, openingRoom, equationRoom};
 use crate::Seen;
@@ -18,7 +18,6 @@ use questions::is_modulus;
 use system::limits::EQUATIONS;
 use system::limits::LINE;
 use system::residues::all_below;
-use words::unpacking::unpack;
 use words::unpacking::unpack_into;
 
 pub const OPENING_ROOM: usize = 3;
@@ -53,17 +52,10 @@ pub fn add_refusal(seen: Seen, words: &[u32], numbers: &mut [u32]) -> u32
     ask(under, 6, below)
 }
 
-pub fn strike_refusal(seen: Seen) -> u32
-    ensures { λ r. ⌜ ((l : Ledger) → Sees l seen → r ≡ refusalOf l (enters strikes)) ⌝ }
+pub fn strike_refusal(seen: Seen, number: u32) -> u32
+    ensures { λ r. ⌜ ((l : Ledger) → Sees l seen → r ≡ refusalOf l (enters (strikes number))) ⌝ }
 {
     let opened = ask(0, 4, seen.opened);
-    ask(opened, 7, 0 < seen.held)
-}
-
-pub fn strike_word_refusal(seen: Seen, word: u32) -> u32
-    ensures { λ r. ⌜ ((l : Ledger) → Sees l seen → r ≡ refusalOf l (enters (strikesFromTape word))) ⌝ }
-{
-    let opened = ask(0, 4, seen.opened);
-    let plain = ask(opened, 1, unpack(word).number == 0);
+    let plain = ask(opened, 1, number == 0);
     ask(plain, 7, 0 < seen.held)
 }

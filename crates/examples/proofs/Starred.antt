@@ -39,7 +39,7 @@ use Rattle.ledger.specs.Questions.{refusalOf}
 use Rattle.sheet.specs.declared.marking.Marked.{Marked}
 use Rattle.sheet.specs.declared.marking.Marked.the-variants.{Gets}
 use Rattle.sheet.specs.Record.{fresh, ledgerOf}
-use Rattle.sheet.specs.Calls.{turnOf, sheetAfter, bufferAfter, markedOf}
+use Rattle.sheet.specs.Calls.{sheetAfter, bufferAfter, markedOf}
 use Rattle.sheet.specs.History.{after, sheetFrom}
 
 -- coefficients and a right side, as the paper writes an equation
@@ -134,17 +134,17 @@ oneTwoIsZeroCalls = opening 4 2 ∷ adding (1 ∷ 2 ∷ []) 0 ∷ []
 
 pub one-two-is-zero-answered : (x : ℕ)
     → buffer oneTwoIsZeroCalls (x ∷ x ∷ x ∷ x ∷ x ∷ x ∷ x ∷ x ∷ []) ≡ block 3 (0 ∷ 0 ∷ 2 ∷ 1 ∷ 0 ∷ 2 ∷ []) ++ (x ∷ [])
-unfolding sheetFrom fresh turnOf sheetAfter ledgerOf bufferAfter memoryAfter refusalOf wordsIn equationsOf answerWords blockOf
+unfolding sheetFrom fresh sheetAfter ledgerOf bufferAfter memoryAfter refusalOf wordsIn equationsOf answerWords blockOf
     startOf stepsOf stepAt flatten
 one-two-is-zero-answered x = refl
 
 pub step-two-three-marked : marked oneTwoIsZeroCalls (block 2 (0 ∷ 0 ∷ 2 ∷ 3 ∷ [])) ≡ Gets Pass
-unfolding sheetFrom fresh turnOf sheetAfter ledgerOf markedOf refusalOf wordsIn equationsOf claimOf vectorsOf markOf
+unfolding sheetFrom fresh sheetAfter ledgerOf markedOf refusalOf wordsIn equationsOf claimOf vectorsOf markOf
     passes describes
 step-two-three-marked = refl
 
 pub step-zero-two-marked : marked oneTwoIsZeroCalls (block 2 (0 ∷ 0 ∷ 0 ∷ 2 ∷ [])) ≡ Gets Fail
-unfolding sheetFrom fresh turnOf sheetAfter ledgerOf markedOf refusalOf wordsIn equationsOf claimOf vectorsOf markOf
+unfolding sheetFrom fresh sheetAfter ledgerOf markedOf refusalOf wordsIn equationsOf claimOf vectorsOf markOf
     passes describes
 step-zero-two-marked = refl
 
@@ -176,10 +176,10 @@ abbrev pub withZeroCalls : List Call
 withZeroCalls = twoAndThreeCalls ++ (adding (1 ∷ []) 0 ∷ [])
 
 abbrev pub struckCalls : List Call
-struckCalls = withZeroCalls ++ (enters strikes ∷ [])
+struckCalls = withZeroCalls ++ (enters (strikes 0) ∷ [])
 
 pub two-and-three-answered : (x y z : ℕ) → buffer twoAndThreeCalls (x ∷ y ∷ z ∷ []) ≡ block 1 (5 ∷ []) ++ (z ∷ [])
-unfolding sheetFrom fresh turnOf sheetAfter ledgerOf bufferAfter memoryAfter refusalOf wordsIn equationsOf answerWords blockOf
+unfolding sheetFrom fresh sheetAfter ledgerOf bufferAfter memoryAfter refusalOf wordsIn equationsOf answerWords blockOf
     startOf stepsOf stepAt flatten
 two-and-three-answered x y z = refl
 
@@ -212,7 +212,7 @@ with-zero-refutes =
 -- a block of four words fits a buffer of four
 with-zero-fits : (x : ℕ) (ks : List ℕ) → length ks ≡ 3 → blockOf 6 1 withZero ≡ 0 ∷ ks
     → buffer withZeroCalls (x ∷ x ∷ x ∷ x ∷ []) ≡ word headKind 0 ∷ wordsOf multiplierKind ks
-unfolding sheetFrom fresh turnOf sheetAfter ledgerOf bufferAfter memoryAfter refusalOf wordsIn equationsOf answerWords
+unfolding sheetFrom fresh sheetAfter ledgerOf bufferAfter memoryAfter refusalOf wordsIn equationsOf answerWords
 with-zero-fits x [] l e = absurd (omega arith)
 with-zero-fits x (a ∷ []) l e = absurd (omega arith)
 with-zero-fits x (a ∷ b ∷ []) l e = absurd (omega arith)
@@ -229,12 +229,12 @@ with-zero-answered x = (
 )
 
 pub with-zero-held : ledgerOf (after withZeroCalls) ≡ opened 6 1 withZero
-unfolding sheetFrom fresh turnOf sheetAfter ledgerOf refusalOf wordsIn equationsOf
+unfolding sheetFrom fresh sheetAfter ledgerOf refusalOf wordsIn equationsOf
 with-zero-held = refl
 
 -- "Strike: from 5 again."
 pub struck-answered : (x y z : ℕ) → buffer struckCalls (x ∷ y ∷ z ∷ []) ≡ block 1 (5 ∷ []) ++ (z ∷ [])
-unfolding sheetFrom fresh turnOf sheetAfter ledgerOf bufferAfter memoryAfter refusalOf wordsIn equationsOf answerWords blockOf
+unfolding sheetFrom fresh sheetAfter ledgerOf bufferAfter memoryAfter refusalOf wordsIn equationsOf answerWords blockOf
     startOf stepsOf stepAt flatten
 struck-answered x y z = refl
 

@@ -19,7 +19,7 @@ use Rattle.words.specs.Words.{wordsIn, numbersOf}
 use Rattle.words.proofs.Words.{numbers-count}
 use Rattle.ledger.specs.Ledger.{Ledger, unopened, opened, isOpened, modulusOf, unknownsOf, equationsIn, mostEquations}
 use Rattle.ledger.specs.Shapes.{isEquation}
-use Rattle.ledger.specs.Calls.{Entry, opens, adds, strikes, strikesFromTape, enters}
+use Rattle.ledger.specs.Calls.{Entry, opens, adds, strikes, enters}
 use Rattle.ledger.specs.Questions.{allowedUnknowns, refusalOf}
 use Rattle.ledger.specs.History.{Effect, begins, gains, loses, effectOf, changed, without, enter}
 use Rattle.ledger.proofs.Shapes.{equation-length}
@@ -53,11 +53,8 @@ accepted-allows l (adds ws) none =
       coefficients = below-take (modulusOf l) n numbers below;
       right = below-at (modulusOf l) n numbers below (omega (arith, long));
     }
-accepted-allows l strikes none =
-    let yes = accepted-yes l (enters strikes) none in
-    (yes .0, omega (arith, ltb→lt 0 (length (equationsIn l)) (yes .1 .0)))
-accepted-allows l (strikesFromTape w) none =
-    let yes = accepted-yes l (enters (strikesFromTape w)) none in
+accepted-allows l (strikes number) none =
+    let yes = accepted-yes l (enters (strikes number)) none in
     (yes .0, omega (arith, ltb→lt 0 (length (equationsIn l)) (yes .1 .1 .0)))
 
 pub enter-accepted : (l : Ledger) (e : Entry) → refusalOf l (enters e) ≡ 0 → enter l (enters e) ≡ changed l (effectOf l e)

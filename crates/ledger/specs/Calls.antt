@@ -3,15 +3,14 @@ use mathlib.Core.List.{List}
 use Prim.Native.Nat.{ℕ}
 
 -- The calls that open, add or strike, each "with its arguments other than the sheet". Words and buffers are given by what "their
--- memory holds at that call". "An answer word on tape with a number other than 0 is a refused call", and so is a strike word: calls
--- from tape that have their word among their arguments.
+-- memory holds at that call"; a strike has the number of its word, 0 where a caller names none.
 pub data Entry : Type 0 where
   opens : List ℕ → Entry
   adds : List ℕ → Entry
-  strikes : Entry
-  strikesFromTape : ℕ → Entry
+  strikes : ℕ → Entry
 
--- "those that neither open, add nor strike"; meaningless: a first word on tape that picks no call
+-- "those that neither open, add nor strike". "An answer word on tape with a number other than 0 is a refused call": an answer from
+-- tape has its word. Meaningless: a first word on tape that picks no call.
 pub data Query : Type 0 where
   answers : List ℕ → Query
   answersFromTape : ℕ → Query

@@ -8,7 +8,7 @@ use Rattle.equations.specs.Equation.{Equation}
 use Rattle.words.specs.Words.{wordsIn}
 use Rattle.ledger.specs.Ledger.{Ledger, unopened, opened, unknownsOf, equationsIn}
 use Rattle.ledger.specs.Shapes.{numberAt, equationFrom}
-use Rattle.ledger.specs.Calls.{Entry, opens, adds, strikes, strikesFromTape, Call, enters, queries}
+use Rattle.ledger.specs.Calls.{Entry, opens, adds, strikes, Call, enters, queries}
 use Rattle.ledger.specs.Questions.{refusalOf}
 
 -- m and n with no equations; an equation more; the equation at this place, counted from 0, gone
@@ -21,8 +21,7 @@ abbrev pub effectOf : Ledger → Entry → Effect
 effectOf l (opens ws) = begins (numberAt (wordsIn ws) 0) (numberAt (wordsIn ws) 1)
 effectOf l (adds ws) = gains (equationFrom (unknownsOf l) (wordsIn ws))
 -- "Accepted strike: the last equation goes."
-effectOf l strikes = loses (length (equationsIn l) - 1)
-effectOf l (strikesFromTape w) = loses (length (equationsIn l) - 1)
+effectOf l (strikes number) = loses (length (equationsIn l) - 1)
 
 -- all but what stands at place j
 abbrev pub without : {A : Type 0} → ℕ → List A → List A

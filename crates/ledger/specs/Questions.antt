@@ -12,7 +12,7 @@ use Rattle.words.specs.Words.{wordOf, wordsIn, numbersOf}
 use Rattle.ledger.specs.Ledger.{Ledger, isOpened, modulusOf, unknownsOf, equationsIn, mostEquations, mostUnknowns}
 use Rattle.ledger.specs.Shapes.{numberAt, isOpening, isEquation, isClaim, entriesOf}
 use Rattle.ledger.specs.Block.{answerWords}
-use Rattle.ledger.specs.Calls.{Call, opens, adds, strikes, strikesFromTape, answers, answersFromTape, marks, meaningless, enters, queries}
+use Rattle.ledger.specs.Calls.{Call, opens, adds, strikes, answers, answersFromTape, marks, meaningless, enters, queries}
 
 -- "n 1..16?"
 abbrev pub allowedUnknowns : ℕ → Bool
@@ -37,10 +37,9 @@ questions l (enters (adds ws)) =
     ∷ asks 6 (allBelow (modulusOf l) (numbersOf (wordsIn ws)))
     ∷ []
 -- "Strike: opened? 4. On tape, number 0? 1. An equation there? 7."
-questions l (enters strikes) = asks 4 (isOpened l) ∷ asks 7 (ltb 0 (length (equationsIn l))) ∷ []
-questions l (enters (strikesFromTape w)) =
+questions l (enters (strikes number)) =
     asks 4 (isOpened l)
-    ∷ asks 1 (plain w)
+    ∷ asks 1 (eqb number 0)
     ∷ asks 7 (ltb 0 (length (equationsIn l)))
     ∷ []
 -- "Answer: opened? 4. On tape, number 0? 1. Buffer long enough for this block? 8; on tape it always is."

@@ -15,9 +15,16 @@ use Rattle.congruence.specs.declared.Solved.the-variants.{Refused, NoSolution, 
 use Rattle.congruence.specs.Congruence.{congruenceOf}
 use Rattle.equations.specs.Lines.{equationsOf}
 use Rattle.equations.specs.Multipliers.{allBelow}
+use Rattle.equations.specs.Claim.{markNumber}
 use Rattle.system.specs.Block.{blockOf}
 use Rattle.ledger.specs.Ledger.{mostEquations}
 use Rattle.ledger.specs.Questions.{allowedUnknowns}
+use Rattle.sheet.specs.declared.Entered.{Entered}
+use Rattle.sheet.specs.declared.Entered.the-variants.{Holds, Refused as Entered·Refused}
+use Rattle.sheet.specs.declared.answering.Answered.{Answered}
+use Rattle.sheet.specs.declared.answering.Answered.the-variants.{Wrote as Answered·Wrote, Refused as Answered·Refused}
+use Rattle.sheet.specs.declared.marking.Marked.{Marked}
+use Rattle.sheet.specs.declared.marking.Marked.the-variants.{Gets, Refused as Marked·Refused}
 use Rattle.safe.specs.declared.Turned.{Turned}
 use Rattle.safe.specs.declared.Turned.the-variants.{Wrote, NoTurns, Refused as Turned·Refused}
 use Rattle.tape.specs.Output.{mostBytes, lines}
@@ -25,6 +32,24 @@ use Rattle.tape.specs.Output.{mostBytes, lines}
 -- a refusal as a result: minus its number
 abbrev pub minus : ℕ → ℤ
 minus k = negℤ (pos k)
+
+-- 10,000 times the major, 100 times the minor and the patch number: 1.0.0
+abbrev pub version : ℕ
+version = 10000
+
+-- What the calls on a sheet give back, as a result: "the equations then held", the words of the block, or 1 for a pass and 0 for a
+-- fail; or minus the number of the refusal.
+unfoldable pub enteredResult : Entered → ℤ
+enteredResult (Holds k) = pos k
+enteredResult (Entered·Refused k) = minus k
+
+unfoldable pub answeredResult : Answered → ℤ
+answeredResult (Answered·Wrote k) = pos k
+answeredResult (Answered·Refused k) = minus k
+
+unfoldable pub markedResult : Marked → ℤ
+markedResult (Gets mark) = pos (markNumber mark)
+markedResult (Marked·Refused k) = minus k
 
 -- a call replied: it returned r, and the lent memory went from `old` to `new`
 pub record Replied (reply : Reply ℤ) (old new : List ℕ) (r : ℤ) : Type 0 where

@@ -1,6 +1,7 @@
-// The C face: every call that a C program can make, thin over the crates that do the work.
+// The C face: every call that a C program can make, thin over the crates that do the work. Here are those without a sheet.
 mod posing;
 mod replying;
+pub mod sheets;
 
 ghost use mathlib.Core.Path.{_≡_};
 ghost use Rattle.safe.specs.Calls.{turnedOf, bufferAfter};

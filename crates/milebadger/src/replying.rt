@@ -2,9 +2,15 @@
 // Nothing else writes there.
 ghost use mathlib.Core.Path.{_≡_};
 ghost use mathlib.Core.List.{_∷_};
+ghost use Prim.Native.Nat.{_≤_};
 ghost use lib.IntN.{pos};
 ghost use Rattle.questions.specs.Reply.{gives};
-ghost use Rattle.milebadger.specs.Calls.{minus, Replied, blockReply};
+ghost use Rattle.equations.specs.Claim.{markNumber};
+ghost use Rattle.ledger.specs.Ledger.{mostEquations};
+ghost use Rattle.sheet.specs.View.{heldBy};
+ghost use Rattle.milebadger.specs.Calls.{minus, Replied, blockReply, enteredResult};
+use equations::Mark;
+use sheet::Entered;
 use slices::copying::copy;
 
 // The result where the memory is too short for the numbers: "Buffer long enough for this block? 8".
@@ -32,6 +38,26 @@ pub(crate) fn give_block(head: u32, numbers: &[u32], out: &mut [u32]) -> i64
     copy(numbers, &mut out[1..]);
     let written = numbers.len() + 1;
     written as i64
+}
+
+// How many equations are held, or minus the refusal.
+pub(crate) fn entered_result(entered: Entered) -> i64
+    requires { ⌜ heldBy entered ≤ mostEquations ⌝ }
+    ensures { λ r. ⌜ r ≡ enteredResult entered ⌝ }
+{
+    match entered {
+        Entered::Holds(held) => held as i64,
+        Entered::Refused(number) => refuse(number),
+    }
+}
+
+pub(crate) fn mark_result(mark: Mark) -> i64
+    ensures { λ r. ⌜ r ≡ pos (markNumber mark) ⌝ }
+{
+    match mark {
+        Mark::Pass => 1,
+        Mark::Fail => 0,
+    }
 }
 
 // Minus the number of a refusal.

@@ -68,11 +68,11 @@ fn read_all(tape: &mut [u8]) -> Input
 // A call at a time, then the line of the bytes left over. Whether all of it was written: no call is made after a failed write.
 fn print(tape: &[u8]) -> bool {
     let mut out = [0u8; CALL_ROOM];
-    let mut sheet = Sheet::fresh();
+    let fresh = Sheet::fresh();
+    let mut sheet = fresh.numbers;
     let mut rest = &tape[..];
     while rest.len() >= 4 {
-        let step = next(sheet, rest, &mut out);
-        sheet = step.sheet;
+        let step = next(&mut sheet, rest, &mut out);
         let written = step.written;
         if !io::write_all(STDOUT_FILENO, &out[..written]) {
             return false;

@@ -1,16 +1,18 @@
 -- What an answer gives back and leaves in a buffer, and that it is right: what demand 3 says of it.
 --   answered-unopened, answered-short, answered-wrote   each way out, result and buffer
 --   answered-asked, buffer-asked                        the same by the questions of the call
+--   wrote-fits                                          what is said to be written lies in the buffer
 --   shown-wrote, shown-refused                          each way out of an answer from tape
 --   shown-refusal                                       it says the refusal
 --   right-block                                         the ledger's block is right
-use mathlib.Core.Path.{_≡_, refl}
+use mathlib.Core.Path.{_≡_, refl, sym, _∙_}
 use mathlib.Core.Logic.{Iff·trans, ⊎-elim}
-use mathlib.Core.Bool.{true, false}
+use mathlib.Core.Bool.{Bool, true, false, cond}
 use mathlib.Core.List.{List, [], _∷_}
 use Prim.Native.Nat.{ℕ, zero, suc, _<_, _≤_}
 use native.Mathlib.Omega.{arith}
-use borrow.Author.Tests.{le-leb, lt-leb, ne-eqb}
+use borrow.Author.Tests.{le-leb, lt-leb, ne-eqb, eqb-true}
+use lib.Dec.{eqb, leb→le}
 use lib.ListN.{length}
 use Rattle.slices.specs.Over.{over}
 use Rattle.questions.specs.Questions.{asks, unlessRefused}
@@ -25,6 +27,7 @@ use Rattle.ledger.specs.Ledger.{Ledger, opened, isOpened, modulusOf, unknownsOf
 use Rattle.ledger.specs.Block.{answerWords}
 use Rattle.ledger.specs.Calls.{answers, answersFromTape, queries}
 use Rattle.ledger.specs.Questions.{refusalOf}
+use Rattle.ledger.proofs.Questions.{accepted-yes}
 use Rattle.ledger.proofs.Answer.{answer-some, answer-none, answer-head}
 use Rattle.sheet.specs.declared.answering.Answered.the-variants.{Wrote, Refused}
 use Rattle.sheet.specs.declared.answering.Shown.{Shown}
@@ -57,6 +60,18 @@ module _ (l : Ledger) (old : List ℕ) where
       ≡ unlessRefused (λ (k : ℕ). old) (refusalOf l (queries (answers old))) (over (answerWords l) old)
   unfolding bufferAfter refusalOf
   buffer-asked = reply-memory (asks 4 (isOpened l) ∷ []) (Wrote (length (answerWords l))) (answerWords l) old tt
+
+  -- what is said to be written lies in the buffer
+  pub wrote-fits : {k : ℕ} → answeredOf l old ≡ Wrote k → k ≤ length old
+  wrote-fits {k} said = go (eqb (refusalOf l (queries (answers old))) 0) refl (sym answered-asked ∙ said)
+    where
+      go : (b : Bool) → eqb (refusalOf l (queries (answers old))) 0 ≡ b
+          → cond b (Wrote (length (answerWords l))) (Refused (refusalOf l (queries (answers old)))) ≡ Wrote k → k ≤ length old
+      go true none h =
+          let same : k ≡ length (answerWords l) = cc in
+          let yes = accepted-yes l (queries (answers old)) (eqb-true (refusalOf l (queries (answers old))) 0 none) in
+          omega (arith, same, leb→le (length (answerWords l)) (length old) (yes .1 .0))
+      go false some h = let z : _≡_ {A = ℕ} 0 1 = cc in absurd (omega arith)
 
 module _ (l : Ledger) (w : ℕ) {k : ℕ} (is : k ≡ refusalOf l (queries (answersFromTape w))) {b : Answer} where
   pub shown-wrote : refusalOf l (queries (answersFromTape w)) ≡ 0 → b ≡ answerOf (modulusOf l) (unknownsOf l) (equationsIn l)

@@ -1,126 +1,101 @@
--- The cells of an opened sheet: parts of them are lent, and come back with other numbers at the front.
---   filled-small, width-small   sizes that fit a number
+-- The memory of an opened sheet: a part of it is lent, and comes back with other numbers at the front.
+--   whole, filled-small, width-small   sizes that fit a number
+--   lines-size                  how many numbers so many lines are, for who knows both factors by other names
 --   line-room, line-written     a line written behind the others
 --   place-fits                  a line that is held lies in the cells
---   moved-room, moved-up        the lines behind it, written to its place
-use mathlib.Core.Path.{_≡_, sym, ap, subst, _∙_}
-use mathlib.Core.List.{List, _++_}
+--   moving-fits, moved-up       the lines behind it, moved up to its place
+use mathlib.Core.Path.{_≡_, refl, sym, ap, ap₂, _∙_}
+use mathlib.Core.List.{List, [], _∷_, _++_}
 use Prim.Native.Nat.{ℕ, suc, _+_, _-_, _*_, _<_, _≤_}
 use native.Mathlib.Nat.{mul-le-mul-right}
 use native.Mathlib.Omega.{arith}
 use lib.Dec.{T}
-use lib.ListN.{length, take, drop, length-drop}
-use lib.Seq.{length-take-le}
+use lib.ListN.{length, take, drop, set}
+use lib.Seq.{drop-drop}
 use Rattle.slices.specs.Over.{over}
-use Rattle.slices.proofs.Parts.{lent-is, put-back-is}
+use Rattle.slices.proofs.Parts.{lent, putBack, lent-is, lent-length, put-back-is}
 use Rattle.equations.specs.Lines.{equationAt}
 use Rattle.ledger.specs.Ledger.{isOpened, mostEquations}
 use Rattle.ledger.specs.History.{gains, loses}
-use Rattle.sheet.specs.declared.Sheet.{Sheet}
-use Rattle.sheet.specs.Record.{room, cellsOf, linesIn, ledgerOf, writtenAt, recordBy}
-use Rattle.sheet.proofs.Reading.{Fit, filled, readable-fit, filled-fits, opened-readable}
+use Rattle.sheet.specs.Record.{Sheet, modulusIn, unknownsIn, heldIn, cellsIn, sheetOf, room, size, cellsOf, linesIn, ledgerOf, writtenAt, recordBy}
+use Rattle.sheet.proofs.Reading.{Fit, filled, readable-fit, cells-room, filled-fits, opened-readable}
 use Rattle.sheet.proofs.Joined.{line-whole, drop-take}
 use Rattle.sheet.proofs.Records.{more-fits}
-use Rattle.sheet.proofs.Entering.{holding}
 
--- the cells from place i on are lent, and come back with xs at their front; an array's length is a number k
-written-behind : (k i : ℕ) (cells xs : List ℕ) {part : List ℕ} → length cells ≡ k
-    → part ≡ over xs (take (k - i) (drop i cells))
-    → take i cells ++ (part ++ drop (k - i) (drop i cells)) ≡ writtenAt i xs cells
-written-behind k i cells xs {part} size =
-    subst (λ (k : ℕ).
-    part ≡ over xs (take (k - i) (drop i cells))
-    → take i cells ++ (part ++ drop (k - i) (drop i cells)) ≡ writtenAt i xs cells) size
-    (λ written. put-back-is i cells part ∙ ap (λ (z : List ℕ). take i cells ++ z) (written ∙ ap (over xs) (lent-is i cells)))
+pub lines-size : {a b k n : ℕ} → a ≡ k → b ≡ n → a * (b + 1) ≡ k * (n + 1)
+lines-size = ap₂ (λ (x y : ℕ). x * (y + 1))
 
-lent-room : (k i : ℕ) (cells : List ℕ) → length cells ≡ k → i ≤ k → length (take (k - i) (drop i cells)) ≡ k - i
-lent-room k i cells size fits = length-take-le (k - i) (drop i cells) (omega (arith, length-drop i cells))
+-- xs written from the i-th cell on, and the number of equations with it
+module _ (i k : ℕ) (xs : List ℕ) where
+  written-with : (s : Sheet) → 3 ≤ length s → set (writtenAt (suc (suc (suc i))) xs s) 2 k
+      ≡ sheetOf (modulusIn s) (unknownsIn s) k (writtenAt i xs (cellsIn s))
+  written-with [] long = absurd (omega arith)
+  written-with (m ∷ []) long = absurd (omega arith)
+  written-with (m ∷ n ∷ []) long = absurd (omega arith)
+  written-with (m ∷ n ∷ held ∷ cells) long = refl
+
+  -- the memory from there on is lent, and comes back with xs at its front
+  cells-written : (s : Sheet) → 3 ≤ length s → (at : ℕ) → at ≡ 3 + i → {part : List ℕ} → part ≡ over xs (lent at s)
+      → set (putBack at s part) 2 k ≡ sheetOf (modulusIn s) (unknownsIn s) k (writtenAt i xs (cellsIn s))
+  cells-written s long at is {part} written =
+      let place : at ≡ suc (suc (suc i)) = omega (arith, is) in
+      ap (λ (l : List ℕ). set l 2 k)
+      (put-back-is at s part ∙ ap (λ (z : List ℕ). take at s ++ z) (written ∙ ap (over xs) (lent-is at s)))
+      ∙ ap (λ (j : ℕ). set (writtenAt j xs s) 2 k) place
+      ∙ written-with s long
 
 module _ (s : Sheet) (is : T (isOpened (ledgerOf s))) where
   fit : Fit s
   fit = readable-fit s (opened-readable s is)
 
-  pub cells-room : length (s .cells) ≡ room
-  cells-room = fit .whole
+  pub whole : length s ≡ size
+  whole = fit .whole
 
   pub filled-small : filled s ≤ room
-  filled-small = omega (arith, filled-fits s fit, fit .whole)
+  filled-small = omega (arith, filled-fits s fit, cells-room s fit)
 
-  pub width-small : s .unknowns + 1 ≤ 17
+  pub width-small : unknownsIn s + 1 ≤ 17
   width-small = omega (arith, fit .unknowns)
 
   -- ---- one line more
 
-  module _ (line : List ℕ) (long : length line ≡ s .unknowns + 1) where
-    pub line-room : s .held < mostEquations → length line ≤ length (take (room - filled s) (drop (filled s) (s .cells)))
-    line-room under =
-        omega (arith, long, more-fits s fit under, fit .whole, lent-room room (filled s) (s .cells) (fit .whole) filled-small)
+  module _ (line : List ℕ) (long : length line ≡ unknownsIn s + 1) (at : ℕ) (behind : at ≡ 3 + filled s) where
+    pub line-room : heldIn s < mostEquations → length line ≤ length (lent at s)
+    line-room under = omega (arith, long, more-fits s fit under, cells-room s fit, whole, lent-length at s, behind)
 
-    pub line-written : {part : List ℕ} → part ≡ over line (take (room - filled s) (drop (filled s) (s .cells)))
-        → holding (record {
-          modulus = s .modulus;
-          unknowns = s .unknowns;
-          held = s .held + 1;
-          cells = take (filled s) (s .cells) ++ (part ++ drop (room - filled s) (drop (filled s) (s .cells)));
-        }) (s .held + 1) ≡ holding (recordBy s (gains (equationAt (s .unknowns) line))) (s .held + 1)
+    pub line-written : {part : List ℕ} → part ≡ over line (lent at s)
+        → set (putBack at s part) 2 (heldIn s + 1) ≡ recordBy s (gains (equationAt (unknownsIn s) line))
     line-written written =
-        ap (λ (cells : List ℕ).
-        holding (record { modulus = s .modulus; unknowns = s .unknowns; held = s .held + 1; cells = cells }) (s .held + 1))
-        (written-behind room (filled s) (s .cells) line (fit .whole) written
-        ∙ ap (λ (xs : List ℕ). writtenAt (filled s) xs (s .cells)) (sym (line-whole (s .unknowns) line long)))
+        cells-written (filled s) (heldIn s + 1) line s (omega (arith, whole)) at behind written
+        ∙ ap (λ (xs : List ℕ). sheetOf (modulusIn s) (unknownsIn s) (heldIn s + 1) (writtenAt (filled s) xs (cellsIn s)))
+        (sym (line-whole (unknownsIn s) line long))
 
   -- ---- one line less
 
-  module _ (j : ℕ) (place : j < s .held) where
-    abbrev at : ℕ
-    at = j * (s .unknowns + 1)
-
-    abbrev behind : ℕ
-    behind = j * (s .unknowns + 1) + (s .unknowns + 1)
-
-    pub place-fits : j * (s .unknowns + 1) + (s .unknowns + 1) ≤ filled s
+  module _ (j : ℕ) (place : j < heldIn s) where
+    pub place-fits : j * (unknownsIn s + 1) + (unknownsIn s + 1) ≤ filled s
     place-fits =
-        let next : cellsOf s (suc j) ≤ filled s = mul-le-mul-right (s .unknowns + 1) (omega arith) in
+        let next : cellsOf s (suc j) ≤ filled s = mul-le-mul-right (unknownsIn s + 1) (omega arith) in
         omega (arith, next)
 
-    abbrev moving : List ℕ
-    moving = take (filled s - behind) (drop behind (s .cells))
+    -- for who knows these numbers by other names
+    module _ (width at count : ℕ) (wide : width ≡ unknownsIn s + 1) (first : at ≡ 3 + j * (unknownsIn s + 1))
+        (rest : count ≡ filled s - j * (unknownsIn s + 1) - (unknownsIn s + 1)) where
+      pub moving-fits : width + count ≤ length (lent at s)
+      moving-fits = omega (arith, wide, first, rest, place-fits, filled-small, whole, lent-length at s)
 
-    pub moving-length : length (take (filled s - (j * (s .unknowns + 1) + (s .unknowns + 1)))
-        (drop (j * (s .unknowns + 1) + (s .unknowns + 1)) (s .cells)))
-        ≡ filled s - (j * (s .unknowns + 1) + (s .unknowns + 1))
-    moving-length =
-        length-take-le (filled s - behind) (drop behind (s .cells))
-        (omega (arith, length-drop behind (s .cells), fit .whole, filled-small, place-fits))
+      moving-is : take count (drop width (lent at s)) ≡ drop (cellsOf s (suc j)) (linesIn s)
+      moving-is =
+          let same : at + width ≡ 3 + cellsOf s (suc j) = omega (arith, wide, first) in
+          let left : count ≡ filled s - cellsOf s (suc j) = omega (arith, rest) in
+          ap (λ (l : List ℕ). take count (drop width l)) (lent-is at s)
+          ∙ ap (take count)
+          (drop-drop width at s ∙ ap (λ (k : ℕ). drop k s) same ∙ sym (drop-drop (cellsOf s (suc j)) 3 s))
+          ∙ ap (λ (k : ℕ). take k (drop (cellsOf s (suc j)) (cellsIn s))) left
+          ∙ sym (drop-take (cellsOf s (suc j)) (filled s) (cellsIn s))
 
-    pub moved-room : length moving ≤ length (take (room - j * (s .unknowns + 1)) (drop (j * (s .unknowns + 1)) (s .cells)))
-    moved-room =
-        omega (
-          arith,
-          moving-length,
-          place-fits,
-          filled-small,
-          lent-room room at (s .cells) (fit .whole) (omega (arith, place-fits, filled-small)),
-        )
-
-    moving-is : moving ≡ drop (cellsOf s (suc j)) (linesIn s)
-    moving-is =
-        let same : behind ≡ cellsOf s (suc j) = omega arith in
-        sym (drop-take behind (filled s) (s .cells)) ∙ ap (λ (k : ℕ). drop k (linesIn s)) same
-
-    pub moved-up : {part : List ℕ}
-        → part ≡ over (take (filled s - (j * (s .unknowns + 1) + (s .unknowns + 1)))
-        (drop (j * (s .unknowns + 1) + (s .unknowns + 1)) (s .cells)))
-        (take (room - j * (s .unknowns + 1)) (drop (j * (s .unknowns + 1)) (s .cells)))
-        → holding (record {
-          modulus = s .modulus;
-          unknowns = s .unknowns;
-          held = s .held - 1;
-          cells = take (j * (s .unknowns + 1)) (s .cells)
-              ++ (part ++ drop (room - j * (s .unknowns + 1)) (drop (j * (s .unknowns + 1)) (s .cells)));
-        }) (s .held - 1) ≡ holding (recordBy s (loses j)) (s .held - 1)
-    moved-up written =
-        ap (λ (cells : List ℕ).
-        holding (record { modulus = s .modulus; unknowns = s .unknowns; held = s .held - 1; cells = cells }) (s .held - 1))
-        (written-behind room at (s .cells) moving (fit .whole) written
-        ∙ ap (λ (xs : List ℕ). writtenAt at xs (s .cells)) moving-is)
+      pub moved-up : {part : List ℕ} → part ≡ over (take count (drop width (lent at s))) (lent at s)
+          → set (putBack at s part) 2 (heldIn s - 1) ≡ recordBy s (loses j)
+      moved-up written =
+          cells-written (j * (unknownsIn s + 1)) (heldIn s - 1) (drop (cellsOf s (suc j)) (linesIn s)) s (omega (arith, whole)) at first
+          (written ∙ ap (λ (xs : List ℕ). over xs (lent at s)) moving-is)

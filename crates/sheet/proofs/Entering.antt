@@ -1,11 +1,11 @@
 -- What open, add and strike give back.
---   turn-refused               the sheet, and the number of the question that turned the call away
---   turn-accepted              the record that the call's effect makes, and the equations then held
---   open-length, open-turn     an accepted opening has two words
+--   entry-refused              the number of the question that turned the call away, and the sheet as it was
+--   entry-accepted             the equations then held, and the numbers that the call's effect makes
+--   open-is, open-accepted     an accepted opening has two words
 --   add-opened, add-under      there is room for an accepted equation,
---   add-line, add-turn         and its line is seen in the numbers
---   strike-opened, strike-place, strike-turn   an accepted strike has an equation to strike
-use mathlib.Core.Path.{_≡_, refl, sym, ap, ap₂, subst, _∙_}
+--   add-width, add-accepted    and its line is seen in the numbers
+--   strike-opened, strike-place, strike-accepted   an accepted strike has an equation to strike
+use mathlib.Core.Path.{_≡_, refl, sym, ap, ap₂, _∙_}
 use mathlib.Core.List.{List}
 use Prim.Native.Nat.{ℕ, _+_, _-_, _<_}
 use native.Mathlib.Omega.{arith}
@@ -21,7 +21,7 @@ use Rattle.words.proofs.Words.{numbers-count}
 use Rattle.words.proofs.Unpacked.{all-seen, number-seen}
 use Rattle.ledger.specs.Ledger.{unopened, isOpened, unknownsOf, equationsIn, mostEquations}
 use Rattle.ledger.specs.Shapes.{numberAt, isOpening, isEquation}
-use Rattle.ledger.specs.Calls.{Entry, opens, adds, enters}
+use Rattle.ledger.specs.Calls.{Entry, opens, adds, strikes, enters}
 use Rattle.ledger.specs.Questions.{refusalOf}
 use Rattle.ledger.specs.History.{Effect, gains, loses, effectOf, changed}
 use Rattle.ledger.proofs.Shapes.{opening-length, equation-length}
@@ -29,30 +29,27 @@ use Rattle.ledger.proofs.Questions.{opens-any, accepted-yes}
 use Rattle.ledger.proofs.Effects.{Gains, Allows, accepted-allows, enter-accepted, gains-counts, loses-counts}
 use Rattle.asking.specs.declared.Seen.{Seen}
 use Rattle.asking.specs.Sees.{Sees, openingRoom, equationRoom}
-use Rattle.sheet.specs.declared.Sheet.{Sheet}
-use Rattle.sheet.specs.declared.Turn.{Turn}
 use Rattle.sheet.specs.declared.Entered.the-variants.{Holds, Refused}
-use Rattle.sheet.specs.Record.{room, ledgerOf, recordBy}
-use Rattle.sheet.specs.Calls.{enteredOf, sheetAfter, turnOf}
+use Rattle.sheet.specs.Record.{Sheet, unknownsIn, heldIn, sheetOf, room, ledgerOf, recordBy}
+use Rattle.sheet.specs.Calls.{enteredOf, sheetAfter}
 use Rattle.sheet.proofs.Opened.{seen-unknowns, seen-held}
 use Rattle.sheet.proofs.Few.{unknowns-few}
 
-abbrev pub refusing : Sheet → ℕ → Turn
-refusing s k = record { sheet = s; entered = Refused k }
-
-abbrev pub holding : Sheet → ℕ → Turn
-holding s k = record { sheet = s; entered = Holds k }
-
 module _ (s : Sheet) (e : Entry) (number : ℕ) (is : number ≡ refusalOf (ledgerOf s) (enters e)) where
-  pub turn-refused : (number ≡ 0 → ⊥) → refusing s number ≡ turnOf s e
-  unfolding turnOf sheetAfter enteredOf
-  turn-refused some = rw (← is, ne-eqb number 0 some)
+  pub entry-refused : (number ≡ 0 → ⊥) → (Refused number ≡ enteredOf (ledgerOf s) e) × (s ≡ sheetAfter s e)
+  unfolding sheetAfter enteredOf
+  entry-refused some = let no = ne-eqb number 0 some in (rw (← is, no), rw (← is, no))
 
-  turn-accepted : number ≡ 0 → (effect : Effect) → effectOf (ledgerOf s) e ≡ effect
-      → (k : ℕ) → length (equationsIn (changed (ledgerOf s) effect)) ≡ k → holding (recordBy s effect) k ≡ turnOf s e
-  unfolding turnOf sheetAfter enteredOf
-  turn-accepted none effect same k counts =
-      rw (enter-accepted (ledgerOf s) e (sym is ∙ none), same, counts, ← is, eq-eqb number 0 none)
+  -- the numbers that its effect makes, or others that are the same
+  entry-accepted : number ≡ 0 → (effect : Effect) → effectOf (ledgerOf s) e ≡ effect
+      → (k : ℕ) → length (equationsIn (changed (ledgerOf s) effect)) ≡ k → {new : Sheet} → new ≡ recordBy s effect
+      → (Holds k ≡ enteredOf (ledgerOf s) e) × (new ≡ sheetAfter s e)
+  unfolding sheetAfter enteredOf
+  entry-accepted none effect same k counts made =
+      let yes = eq-eqb number 0 none in (
+        rw (enter-accepted (ledgerOf s) e (sym is ∙ none), same, counts, ← is, yes),
+        rw (made, same, ← is, yes),
+      )
 
 -- ---- open
 
@@ -73,13 +70,11 @@ module _ (ws : List ℕ) (number : ℕ) (is : number ≡ refusalOf unopened (ent
     number-is : (i : ℕ) → i < 2 → getD new i 0 ≡ numberAt (wordsIn ws) i
     number-is i at = number-seen openingRoom ws old seen i (omega arith) (omega (arith, two, numbers-count ws))
 
-    pub open-turn : (s : Sheet)
-        → holding (record { modulus = getD new 0 0; unknowns = getD new 1 0; held = 0; cells = replicate room 0 }) 0
-        ≡ turnOf s (opens ws)
-    open-turn s =
-        ap₂ (λ (m n : ℕ). holding (record { modulus = m; unknowns = n; held = 0; cells = replicate room 0 }) 0)
-        (number-is 0 (omega arith)) (number-is 1 (omega arith))
-        ∙ turn-accepted s (opens ws) number (open-is s) none _ refl 0 refl
+    pub open-accepted : (s : Sheet) {after : Sheet} → after ≡ sheetOf (getD new 0 0) (getD new 1 0) 0 (replicate room 0)
+        → (Holds 0 ≡ enteredOf (ledgerOf s) (opens ws)) × (after ≡ sheetAfter s (opens ws))
+    open-accepted s made =
+        entry-accepted s (opens ws) number (open-is s) none _ refl 0 refl
+        (made ∙ ap₂ (λ (m n : ℕ). sheetOf m n 0 (replicate room 0)) (number-is 0 (omega arith)) (number-is 1 (omega arith)))
 
 -- ---- add
 
@@ -91,13 +86,13 @@ module _ (s : Sheet) (ws : List ℕ) {seen : Seen} (sees : Sees (ledgerOf s) see
   pub add-opened : T (isOpened (ledgerOf s))
   add-opened = allows .opened
 
-  same-unknowns : seen .unknowns ≡ s .unknowns
+  same-unknowns : seen .unknowns ≡ unknownsIn s
   same-unknowns = seen-unknowns s (true-of (isOpened (ledgerOf s)) add-opened) sees
 
-  held-is : length (equationsIn (ledgerOf s)) ≡ s .held
+  held-is : length (equationsIn (ledgerOf s)) ≡ heldIn s
   held-is = sym (sees .held) ∙ seen-held s (true-of (isOpened (ledgerOf s)) add-opened) sees
 
-  pub add-under : s .held < mostEquations
+  pub add-under : heldIn s < mostEquations
   add-under = omega (arith, allows .under, held-is)
 
   module _ (old : List ℕ) {new : List ℕ} (front : new ≡ over (take equationRoom (numbersOf (wordsIn ws))) old) where
@@ -114,38 +109,35 @@ module _ (s : Sheet) (ws : List ℕ) {seen : Seen} (sees : Sees (ledgerOf s) see
         over-front (seen .unknowns + 1) (numbersOf (wordsIn ws)) old
         (all-seen equationRoom ws old front (omega (arith, long, numbers-count ws, sees .unknowns))) long
 
-    pub add-width : length (take (seen .unknowns + 1) new) ≡ s .unknowns + 1
+    pub add-width : length (take (seen .unknowns + 1) new) ≡ unknownsIn s + 1
     add-width = ap length add-line ∙ long ∙ ap (λ (k : ℕ). k + 1) same-unknowns
 
-    pub add-turn : holding (recordBy s (gains (equationAt (s .unknowns) (take (seen .unknowns + 1) new)))) (s .held + 1)
-        ≡ turnOf s (adds ws)
-    add-turn =
-        turn-accepted s (adds ws) number is none (gains (equationAt (s .unknowns) (take (seen .unknowns + 1) new)))
+    pub add-accepted : {after : Sheet} → after ≡ recordBy s (gains (equationAt (unknownsIn s) (take (seen .unknowns + 1) new)))
+        → (Holds (seen .held + 1) ≡ enteredOf (ledgerOf s) (adds ws)) × (after ≡ sheetAfter s (adds ws))
+    add-accepted =
+        entry-accepted s (adds ws) number is none (gains (equationAt (unknownsIn s) (take (seen .unknowns + 1) new)))
         (ap₂ (λ (n : ℕ) (xs : List ℕ). gains (equationAt n xs)) (sym (sees .unknowns) ∙ same-unknowns) (sym add-line))
-        (s .held + 1) (gains-counts (ledgerOf s) _ add-opened ∙ ap (λ (k : ℕ). k + 1) held-is)
+        (seen .held + 1) (gains-counts (ledgerOf s) _ add-opened ∙ ap (λ (k : ℕ). k + 1) (sym (sees .held)))
 
--- ---- strike: any call whose effect is that the last equation goes
+-- ---- strike
 
-module _ (s : Sheet) (e : Entry) (last : effectOf (ledgerOf s) e ≡ loses (length (equationsIn (ledgerOf s)) - 1)) {seen : Seen}
-    (sees : Sees (ledgerOf s) seen) (number : ℕ) (is : number ≡ refusalOf (ledgerOf s) (enters e)) (none : number ≡ 0) where
+module _ (s : Sheet) (k : ℕ) {seen : Seen} (sees : Sees (ledgerOf s) seen) (number : ℕ)
+    (is : number ≡ refusalOf (ledgerOf s) (enters (strikes k))) (none : number ≡ 0) where
   struck : Allows (ledgerOf s) (loses (length (equationsIn (ledgerOf s)) - 1))
-  struck = subst (Allows (ledgerOf s)) last (accepted-allows (ledgerOf s) e (sym is ∙ none))
+  struck = accepted-allows (ledgerOf s) (strikes k) (sym is ∙ none)
 
   pub strike-opened : T (isOpened (ledgerOf s))
   strike-opened = struck .0
 
-  held-same : seen .held ≡ s .held
-  held-same = seen-held s (true-of (isOpened (ledgerOf s)) strike-opened) sees
-
   pub strike-some : 0 < seen .held
   strike-some = omega (arith, struck .1, sees .held)
 
-  pub strike-place : seen .held - 1 < s .held
-  strike-place = omega (arith, strike-some, held-same)
+  pub strike-place : seen .held - 1 < heldIn s
+  strike-place = omega (arith, strike-some, seen-held s (true-of (isOpened (ledgerOf s)) strike-opened) sees)
 
-  pub strike-turn : holding (recordBy s (loses (seen .held - 1))) (s .held - 1) ≡ turnOf s e
-  strike-turn =
-      turn-accepted s e number is none (loses (seen .held - 1))
-      (last ∙ ap (λ (k : ℕ). loses (k - 1)) (sym (sees .held))) (s .held - 1)
-      (loses-counts (ledgerOf s) (seen .held - 1) (omega (arith, strike-some, sees .held))
-      ∙ ap (λ (k : ℕ). k - 1) (sym (sees .held) ∙ held-same))
+  pub strike-accepted : {after : Sheet} → after ≡ recordBy s (loses (seen .held - 1))
+      → (Holds (seen .held - 1) ≡ enteredOf (ledgerOf s) (strikes k)) × (after ≡ sheetAfter s (strikes k))
+  strike-accepted =
+      entry-accepted s (strikes k) number is none (loses (seen .held - 1))
+      (ap (λ (j : ℕ). loses (j - 1)) (sym (sees .held))) (seen .held - 1)
+      (loses-counts (ledgerOf s) (seen .held - 1) (omega (arith, strike-some, sees .held)) ∙ ap (λ (j : ℕ). j - 1) (sym (sees .held)))

@@ -29,7 +29,8 @@ use Rattle.ledger.specs.Calls.{marks, queries}
 use Rattle.ledger.specs.Questions.{refusalOf}
 use Rattle.ledger.proofs.Shapes.{claim-length, claim-some, claim-fits, claimed}
 use Rattle.ledger.proofs.Questions.{accepted-yes}
-use Rattle.asking.specs.Sees.{claimRoom}
+use Rattle.asking.specs.declared.Seen.{Seen}
+use Rattle.asking.specs.Sees.{Sees, claimRoom}
 use Rattle.sheet.specs.declared.marking.Marked.the-variants.{Gets, Refused}
 use Rattle.sheet.specs.Calls.{markedOf}
 
@@ -65,26 +66,28 @@ module _ (l : Ledger) (ws : List ℕ) (accepted : refusalOf l (queries (marks ws
     end-is : getD new 0 0 * unknownsOf l + 1 ≡ length all
     end-is = ap (λ (k : ℕ). k * unknownsOf l + 1) head-is ∙ add-one _ ∙ sym long
 
-    -- for who knows the modulus as m, the unknowns as n and the head as h
-    module _ (m n h : ℕ) (same-m : m ≡ modulusOf l) (same-n : n ≡ unknownsOf l) (same-h : h ≡ getD new 0 0) where
-      pub mark-end : h * n + 1 ≤ longestBlock
-      mark-end = rw (same-h, same-n) (omega (arith, end-is, numbers-count ws, claim-fits (unknownsOf l) ws shape few))
+    -- for who has seen the ledger, and knows the head as h
+    module _ {see : Seen} (sees : Sees l see) (h : ℕ) (same-h : h ≡ getD new 0 0) where
+      pub mark-end : h * see .unknowns + 1 ≤ longestBlock
+      mark-end =
+          rw (same-h, sees .unknowns) (omega (arith, end-is, numbers-count ws, claim-fits (unknownsOf l) ws shape few))
 
-      entries-are : take (h * n + 1 - 1) (drop 1 new) ≡ entriesOf (wordsIn ws)
+      entries-are : take (h * see .unknowns + 1 - 1) (drop 1 new) ≡ entriesOf (wordsIn ws)
       entries-are =
-          rw (same-h, same-n)
+          rw (same-h, sees .unknowns)
           (ap (λ (xs : List ℕ). take (getD new 0 0 * unknownsOf l + 1 - 1) (drop 1 xs)) front
           ∙ behind-first all (drop (length all) old) (getD new 0 0 * unknownsOf l + 1 - 1) (omega (arith, end-is)))
 
-      pub mark-claimed : Claimed m n (take (h * n + 1 - 1) (drop 1 new))
+      pub mark-claimed : Claimed (see .modulus) (see .unknowns) (take (h * see .unknowns + 1 - 1) (drop 1 new))
       mark-claimed =
-          rw (entries-are, same-m, same-n)
+          rw (entries-are, sees .modulus, sees .unknowns)
           (claimed (unknownsOf l) ws shape (modulusOf l) (accepted-yes l (queries (marks ws)) accepted .1 .1 .0))
 
       pub marked-as : (es : List Equation) → es ≡ equationsIn l → (result : Bool)
-          → result ≡ passes m n es (claimOf n (take (h * n + 1 - 1) (drop 1 new))) → Gets (cond result Pass Fail) ≡ markedOf l ws
+          → result ≡ passes (see .modulus) (see .unknowns) es (claimOf (see .unknowns) (take (h * see .unknowns + 1 - 1) (drop 1 new)))
+          → Gets (cond result Pass Fail) ≡ markedOf l ws
       unfolding markedOf markOf
       marked-as es same-es result is =
           let decided : result ≡ passes (modulusOf l) (unknownsOf l) (equationsIn l) (claimOf (unknownsOf l) (entriesOf (wordsIn ws))) =
-          is ∙ rw (entries-are, same-es, same-m, same-n) in
+          is ∙ rw (entries-are, same-es, sees .modulus, sees .unknowns) in
           rw (accepted, decided)

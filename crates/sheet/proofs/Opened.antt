@@ -1,33 +1,32 @@
 -- Whether a sheet is opened, and what is seen of it.
 --   modulus-not, unknowns-not, equations-not, residues-decide   one test of that after the other
 --   opened-fit                      what holds of an opened sheet's record
---   sees-opened, sees-unopened      what the questions see
+--   lines-to                        the lines up to their end
+--   sees-read, sees-unopened        what the questions see
 --   views                           what queries see
 --   seen-unknowns, seen-held        of an opened sheet these are the record's
 --   viewed-block                    the block of the lines that queries see is the ledger's
 use mathlib.Core.Path.{_≡_, refl, sym, ap, ap₂, subst, _∙_}
-use mathlib.Core.Logic.{⊎-elim}
 use mathlib.Core.Bool.{Bool, true, false, cond}
-use Prim.Native.Nat.{ℕ, _+_, _*_, _<_, _≤_}
+use Prim.Native.Nat.{ℕ, _+_, _-_, _*_, _<_, _≤_}
 use native.Mathlib.Omega.{arith}
 use borrow.Author.Tests.{le-leb, lt-leb, eq-eqb}
 use lib.Dec.{T}
-use lib.ListN.{length, take}
+use lib.ListN.{length, take, length-drop}
 use Rattle.questions.specs.Questions.{allowedModulus}
 use Rattle.equations.specs.Multipliers.{allBelow}
 use Rattle.equations.specs.Lines.{equationsOf}
-use Rattle.equations.proofs.Truth.{true-of, true-or-false}
+use Rattle.equations.proofs.Truth.{true-of}
 use Rattle.system.specs.declared.solving.Answer.{Answer}
 use Rattle.system.specs.Posed.{Posed}
 use Rattle.system.specs.Block.{answerOf}
-use Rattle.ledger.specs.Ledger.{Ledger, unopened, opened, isOpened, modulusOf, unknownsOf, equationsIn, mostEquations}
+use Rattle.ledger.specs.Ledger.{Ledger, unopened, opened, isOpened, modulusOf, unknownsOf, equationsIn, mostEquations, mostUnknowns}
 use Rattle.ledger.specs.Questions.{allowedUnknowns}
 use Rattle.asking.specs.declared.Seen.{Seen}
 use Rattle.asking.specs.Sees.{Sees}
-use Rattle.sheet.specs.declared.Sheet.{Sheet}
 use Rattle.sheet.specs.declared.viewing.View.{View}
-use Rattle.sheet.specs.Record.{room, linesIn, readable, ledgerOf}
-use Rattle.sheet.specs.View.{Views}
+use Rattle.sheet.specs.Record.{Sheet, modulusIn, unknownsIn, heldIn, cellsIn, size, linesIn, readable, ledgerOf}
+use Rattle.sheet.specs.View.{linesTo, Views}
 use Rattle.sheet.proofs.Reading.{Fit, readable-fit, filled-fits, ledger-opened, ledger-unopened, opened-posed, held-counts}
 
 module _ (s : Sheet) where
@@ -35,25 +34,32 @@ module _ (s : Sheet) where
   unfolding ledgerOf
   opened-is = go (readable s)
     where
-      go : (b : Bool) → isOpened (cond b (opened (s .modulus) (s .unknowns) (equationsOf (s .unknowns) (linesIn s))) unopened) ≡ b
+      go : (b : Bool) → isOpened (cond b (opened (modulusIn s) (unknownsIn s) (equationsOf (unknownsIn s) (linesIn s))) unopened) ≡ b
       go true = refl
       go false = refl
 
-  pub modulus-not : allowedModulus (s .modulus) ≡ false → isOpened (ledgerOf s) ≡ false
+  -- the lines up to their end, for who knows the unknowns and the equations held by other names
+  pub lines-to : {n held : ℕ} (end : ℕ) → end ≡ 3 + held * (n + 1) → n ≡ unknownsIn s → held ≡ heldIn s → linesTo end s ≡ linesIn s
+  lines-to {n} {held} end at same-n same-held =
+      let size : held * (n + 1) ≡ heldIn s * (unknownsIn s + 1) = ap₂ (λ (a b : ℕ). a * (b + 1)) same-held same-n in
+      let count : end - 3 ≡ heldIn s * (unknownsIn s + 1) = omega (arith, at, size) in
+      ap (λ (k : ℕ). take k (cellsIn s)) count
+
+  pub modulus-not : allowedModulus (modulusIn s) ≡ false → isOpened (ledgerOf s) ≡ false
   modulus-not m = opened-is ∙ rw m
 
-  module _ (m : allowedModulus (s .modulus) ≡ true) where
-    pub unknowns-not : allowedUnknowns (s .unknowns) ≡ false → isOpened (ledgerOf s) ≡ false
+  module _ (m : allowedModulus (modulusIn s) ≡ true) where
+    pub unknowns-not : allowedUnknowns (unknownsIn s) ≡ false → isOpened (ledgerOf s) ≡ false
     unknowns-not n = opened-is ∙ rw (m, n)
 
-    module _ (n : allowedUnknowns (s .unknowns) ≡ true) where
-      pub equations-not : mostEquations < s .held → isOpened (ledgerOf s) ≡ false
-      equations-not many = opened-is ∙ rw (m, n, lt-leb (s .held) mostEquations many)
+    module _ (n : allowedUnknowns (unknownsIn s) ≡ true) where
+      pub equations-not : mostEquations < heldIn s → isOpened (ledgerOf s) ≡ false
+      equations-not many = opened-is ∙ rw (m, n, lt-leb (heldIn s) mostEquations many)
 
-      pub residues-decide : s .held ≤ mostEquations → length (s .cells) ≡ room
-          → isOpened (ledgerOf s) ≡ allBelow (s .modulus) (linesIn s)
+      pub residues-decide : heldIn s ≤ mostEquations → length s ≡ size
+          → isOpened (ledgerOf s) ≡ allBelow (modulusIn s) (linesIn s)
       residues-decide few whole =
-          opened-is ∙ rw (m, n, le-leb (s .held) mostEquations few, eq-eqb (length (s .cells)) room whole)
+          opened-is ∙ rw (m, n, le-leb (heldIn s) mostEquations few, eq-eqb (length s) size whole)
 
   -- ---- what is seen
 
@@ -71,64 +77,66 @@ module _ (s : Sheet) where
     pub opened-fit : Fit s
     opened-fit = readable-fit s reads
 
-    pub opened-ledger : ledgerOf s ≡ opened (s .modulus) (s .unknowns) (equationsOf (s .unknowns) (linesIn s))
+    pub opened-ledger : ledgerOf s ≡ opened (modulusIn s) (unknownsIn s) (equationsOf (unknownsIn s) (linesIn s))
     opened-ledger = ledger-opened s reads
 
-    pub sees-opened : Sees (ledgerOf s) (record { opened = true; modulus = s .modulus; unknowns = s .unknowns; held = s .held })
-    sees-opened =
-        record {
-          opened = sym h;
-          modulus = sym (ap modulusOf opened-ledger);
-          unknowns = sym (ap unknownsOf opened-ledger);
-          held = sym (held-counts s reads);
-        }
+    -- for who knows the unknowns and the equations held by other names
+    pub sees-read : {n held : ℕ} → n ≡ unknownsIn s → held ≡ heldIn s
+        → Sees (ledgerOf s) (record { opened = true; modulus = modulusIn s; unknowns = n; held = held })
+        × ((n ≤ mostUnknowns) × (held ≤ mostEquations))
+    sees-read same-n same-held = (
+      record {
+        opened = sym h;
+        modulus = sym (ap modulusOf opened-ledger);
+        unknowns = same-n ∙ sym (ap unknownsOf opened-ledger);
+        held = same-held ∙ sym (held-counts s reads);
+      },
+      (omega (arith, same-n, opened-fit .unknowns), omega (arith, same-held, opened-fit .equations)),
+    )
 
     module _ {seen : Seen} (sees : Sees (ledgerOf s) seen) where
-      seen-modulus : seen .modulus ≡ s .modulus
+      seen-modulus : seen .modulus ≡ modulusIn s
       seen-modulus = sees .modulus ∙ ap modulusOf opened-ledger
 
-      pub seen-unknowns : seen .unknowns ≡ s .unknowns
+      pub seen-unknowns : seen .unknowns ≡ unknownsIn s
       seen-unknowns = sees .unknowns ∙ ap unknownsOf opened-ledger
 
-      pub seen-held : seen .held ≡ s .held
+      pub seen-held : seen .held ≡ heldIn s
       seen-held = sees .held ∙ held-counts s reads
 
-      lines-are : take (seen .held * (seen .unknowns + 1)) (s .cells) ≡ linesIn s
-      lines-are =
-          ap (λ (k : ℕ). take (k * (seen .unknowns + 1)) (s .cells)) seen-held
-          ∙ ap (λ (k : ℕ). take (s .held * (k + 1)) (s .cells)) seen-unknowns
+      -- the numbers up to the end that queries see
+      module _ (end : ℕ) (at : end ≡ 3 + seen .held * (seen .unknowns + 1)) where
+        lines-are : linesTo end s ≡ linesIn s
+        lines-are = lines-to end at seen-unknowns seen-held
 
-      posed : Posed (seen .modulus) (seen .unknowns) (take (seen .held * (seen .unknowns + 1)) (s .cells))
-      posed = rw (lines-are, seen-modulus, seen-unknowns) (opened-posed s reads)
+        lines-fit : end ≤ length s
+        lines-fit =
+            let filled : seen .held * (seen .unknowns + 1) ≤ length (cellsIn s) = rw (seen-held, seen-unknowns) (filled-fits s opened-fit) in
+            omega (arith, at, filled, opened-fit .whole, length-drop 3 s)
 
-      equations-are : equationsOf (seen .unknowns) (take (seen .held * (seen .unknowns + 1)) (s .cells)) ≡ equationsIn (ledgerOf s)
-      equations-are = rw (lines-are, seen-unknowns) (sym (ap equationsIn opened-ledger))
+        posed : Posed (seen .modulus) (seen .unknowns) (linesTo end s)
+        posed = rw (lines-are, seen-modulus, seen-unknowns) (opened-posed s reads)
 
-      filled-seen : seen .held * (seen .unknowns + 1) ≤ length (s .cells)
-      filled-seen = rw (seen-held, seen-unknowns) (filled-fits s opened-fit)
+        equations-are : equationsOf (seen .unknowns) (linesTo end s) ≡ equationsIn (ledgerOf s)
+        equations-are = rw (lines-are, seen-unknowns) (sym (ap equationsIn opened-ledger))
 
-  module _ {seen : Seen} (sees : Sees (ledgerOf s) seen) where
-    len-fits : seen .held * (seen .unknowns + 1) ≤ length (s .cells)
-    len-fits =
-        ⊎-elim (λ h. filled-seen h sees)
-        (λ h. let none : seen .held ≡ 0 = sees .held ∙ ap (λ (l : Ledger). length (equationsIn l)) (ledger-unopened s (sym opened-is ∙ h)) in
-        rw none (omega arith))
-        (true-or-false (isOpened (ledgerOf s)))
-
-    pub views : Views (ledgerOf s) (record { seen = seen; len = seen .held * (seen .unknowns + 1); lines = s .cells })
-    views =
-        record {
-          sees = sees;
-          fits = len-fits;
-          posed = λ is. posed (true-of (isOpened (ledgerOf s)) is) sees;
-          equations = λ is. equations-are (true-of (isOpened (ledgerOf s)) is) sees;
-        }
+  pub views : {seen : Seen} (sees : Sees (ledgerOf s) seen) (end : ℕ) → end ≡ 3 + seen .held * (seen .unknowns + 1)
+      → Views s (record { seen = seen; end = end })
+  views sees end at =
+      let yes : T (isOpened (ledgerOf s)) → isOpened (ledgerOf s) ≡ true = true-of (isOpened (ledgerOf s)) in
+      record {
+        sees = sees;
+        begins = omega (arith, at);
+        fits = λ is. lines-fit (yes is) sees end at;
+        posed = λ is. posed (yes is) sees end at;
+        equations = λ is. equations-are (yes is) sees end at;
+      }
 
 -- ---- what follows from what queries see
 
-pub viewed-block : {l : Ledger} {view : View} {b : Answer} → Views l view → T (isOpened l)
-    → b ≡ answerOf (view .seen .modulus) (view .seen .unknowns) (equationsOf (view .seen .unknowns) (take (view .len) (view .lines)))
-    → b ≡ answerOf (modulusOf l) (unknownsOf l) (equationsIn l)
-viewed-block {l} {view} v is made =
+pub viewed-block : {s : Sheet} {view : View} {b : Answer} → Views s view → T (isOpened (ledgerOf s))
+    → b ≡ answerOf (view .seen .modulus) (view .seen .unknowns) (equationsOf (view .seen .unknowns) (linesTo (view .end) s))
+    → b ≡ answerOf (modulusOf (ledgerOf s)) (unknownsOf (ledgerOf s)) (equationsIn (ledgerOf s))
+viewed-block {s} {view} v is made =
     made ∙ ap (answerOf (view .seen .modulus) (view .seen .unknowns)) (v .equations is)
-    ∙ ap₂ (λ (m n : ℕ). answerOf m n (equationsIn l)) (v .sees .modulus) (v .sees .unknowns)
+    ∙ ap₂ (λ (m n : ℕ). answerOf m n (equationsIn (ledgerOf s))) (v .sees .modulus) (v .sees .unknowns)

@@ -2,6 +2,8 @@
 --   demand3             after every list with an accepted opening, answers and marks are right
 --   decided-always      after every list of calls the ledger's questions decide the next one
 --   own-block-passes    an answer's own block passes
+--   zeros-are-fresh     zeroed memory is a fresh sheet
+--   reads-on            calls go on from what the memory reads as
 use mathlib.Core.Path.{_≡_, refl, ap, ap₂, subst, sym, _∙_}
 use mathlib.Core.Logic.{⊎-elim}
 use mathlib.Core.List.{List}
@@ -30,11 +32,11 @@ use Rattle.ledger.proofs.History.{Opened, opening-opens}
 use Rattle.ledger.proofs.Sound.{ledger-sound}
 use Rattle.sheet.specs.declared.answering.Answered.the-variants.{Wrote}
 use Rattle.sheet.specs.declared.marking.Marked.the-variants.{Gets}
-use Rattle.sheet.specs.Record.{ledgerOf}
-use Rattle.sheet.specs.Calls.{turnOf, enteredOf, answeredOf, bufferAfter, shownOf, markedOf}
-use Rattle.sheet.specs.History.{after}
-use Rattle.sheet.specs.Promises.{NothingSolves, Shows, RightMark, Promised, Demand3, DecidedAlways, OwnBlockPasses}
-use Rattle.sheet.proofs.History.{after-reads, left-refused}
+use Rattle.sheet.specs.Record.{fresh, ledgerOf}
+use Rattle.sheet.specs.Calls.{enteredOf, answeredOf, bufferAfter, shownOf, markedOf}
+use Rattle.sheet.specs.History.{sheetFrom, after}
+use Rattle.sheet.specs.Promises.{NothingSolves, Shows, RightMark, Promised, Demand3, DecidedAlways, OwnBlockPasses, ZerosAreFresh, ReadsOn}
+use Rattle.sheet.proofs.History.{from-reads, fresh-unopened, after-reads, left-refused}
 use Rattle.sheet.proofs.Solved.{solved-words, shown-block}
 use Rattle.sheet.proofs.Answers.{answered-short, answered-wrote, answered-asked, buffer-asked, shown-refusal, right-block}
 use Rattle.sheet.proofs.Marks.{right-mark, own-mark}
@@ -120,7 +122,7 @@ buffer-kept : (l : Ledger) (old : List ℕ) → 0 < refusalOf l (queries (answer
 buffer-kept l old h = buffer-asked l old ∙ rw (ne-eqb (refusalOf l (queries (answers old))) 0 (λ e. omega arith))
 
 pub decided-always : DecidedAlways
-unfolding turnOf enteredOf shownOf markedOf
+unfolding enteredOf shownOf markedOf
 decided-always calls =
     let reads = after-reads calls in
     let refused : (c : Call) → 0 < refusalOf (ledger calls) c → 0 < refusalOf (ledgerOf (after calls)) c =
@@ -134,3 +136,12 @@ decided-always calls =
       sheetKept = λ c h. left-refused (after calls) c (refused c h);
       bufferKept = λ old h. buffer-kept (ledgerOf (after calls)) old (refused (queries (answers old)) h);
     }
+
+-- ---- memory
+
+pub zeros-are-fresh : ZerosAreFresh
+unfolding sheetFrom fresh
+zeros-are-fresh = (refl, fresh-unopened)
+
+pub reads-on : ReadsOn
+reads-on = from-reads

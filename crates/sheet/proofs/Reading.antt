@@ -1,6 +1,6 @@
--- The ledger that a sheet's record reads as.
+-- The ledger that a sheet's numbers read as.
 --   Fit, readable-fit, fit-readable   what a readable record is
---   filled, filled-fits, length-lines  its equations lie in its cells
+--   cells-room, filled, filled-fits, length-lines  its equations lie in its cells
 --   lying                             the ledger that lies in it
 --   ledger-opened, ledger-unopened    a readable record reads as that ledger, any other as an unopened one
 --   opened-readable                   and only a readable record is
@@ -13,7 +13,7 @@ use Prim.Native.Nat.{ℕ, _+_, _%_, _≤_}
 use native.Mathlib.Nat.{mul-le-mul, mul-mod-left, mul-le-mul-right}
 use native.Mathlib.Omega.{arith}
 use lib.Dec.{T, eqb, leb, leb→le, le→leb, eqb→eq}
-use lib.ListN.{length}
+use lib.ListN.{length, length-drop}
 use lib.Seq.{length-take-le}
 use mir.Facts.{and-yes, yes-and, yes-eqb}
 use Rattle.questions.specs.Questions.{allowedModulus, largestModulus}
@@ -27,79 +27,81 @@ use Rattle.equations.proofs.Lines.{equations-count}
 use Rattle.system.specs.Posed.{Posed}
 use Rattle.ledger.specs.Ledger.{Ledger, unopened, opened, isOpened, equationsIn, mostEquations, mostUnknowns}
 use Rattle.ledger.specs.Questions.{allowedUnknowns}
-use Rattle.sheet.specs.declared.Sheet.{Sheet}
-use Rattle.sheet.specs.Record.{room, cellsOf, linesIn, readable, ledgerOf}
+use Rattle.sheet.specs.Record.{Sheet, modulusIn, unknownsIn, heldIn, cellsIn, room, size, cellsOf, linesIn, readable, ledgerOf}
 
 pub record Fit (s : Sheet) : Type 0 where
-  pub modulus : 2 ≤ s .modulus
-  pub largest : s .modulus ≤ largestModulus
-  pub hasUnknowns : 1 ≤ s .unknowns
-  pub unknowns : s .unknowns ≤ mostUnknowns
-  pub equations : s .held ≤ mostEquations
-  pub whole : length (s .cells) ≡ room
-  pub residues : Below (s .modulus) (linesIn s)
+  pub modulus : 2 ≤ modulusIn s
+  pub largest : modulusIn s ≤ largestModulus
+  pub hasUnknowns : 1 ≤ unknownsIn s
+  pub unknowns : unknownsIn s ≤ mostUnknowns
+  pub equations : heldIn s ≤ mostEquations
+  pub whole : length s ≡ size
+  pub residues : Below (modulusIn s) (linesIn s)
 
 abbrev pub filled : Sheet → ℕ
-filled s = cellsOf s (s .held)
+filled s = cellsOf s (heldIn s)
 
 module _ (s : Sheet) where
   -- the tests, from the last to the first
   abbrev upToWhole : Bool
   upToWhole =
-      allowedModulus (s .modulus) && allowedUnknowns (s .unknowns) && leb (s .held) mostEquations
-      && eqb (length (s .cells)) room
+      allowedModulus (modulusIn s) && allowedUnknowns (unknownsIn s) && leb (heldIn s) mostEquations
+      && eqb (length s) size
 
   abbrev upToHeld : Bool
-  upToHeld = allowedModulus (s .modulus) && allowedUnknowns (s .unknowns) && leb (s .held) mostEquations
+  upToHeld = allowedModulus (modulusIn s) && allowedUnknowns (unknownsIn s) && leb (heldIn s) mostEquations
 
   pub readable-fit : readable s ≡ true → Fit s
   readable-fit h =
-      let e = and-yes upToWhole (allBelow (s .modulus) (linesIn s)) (of-true h) in
-      let d = and-yes upToHeld (eqb (length (s .cells)) room) (e .0) in
-      let c = and-yes (allowedModulus (s .modulus) && allowedUnknowns (s .unknowns)) (leb (s .held) mostEquations) (d .0) in
-      let b = and-yes (allowedModulus (s .modulus)) (allowedUnknowns (s .unknowns)) (c .0) in
-      let m = within-range 2 (s .modulus) largestModulus .0 (b .0) in
-      let n = within-range 1 (s .unknowns) mostUnknowns .0 (b .1) in
+      let e = and-yes upToWhole (allBelow (modulusIn s) (linesIn s)) (of-true h) in
+      let d = and-yes upToHeld (eqb (length s) size) (e .0) in
+      let c = and-yes (allowedModulus (modulusIn s) && allowedUnknowns (unknownsIn s)) (leb (heldIn s) mostEquations) (d .0) in
+      let b = and-yes (allowedModulus (modulusIn s)) (allowedUnknowns (unknownsIn s)) (c .0) in
+      let m = within-range 2 (modulusIn s) largestModulus .0 (b .0) in
+      let n = within-range 1 (unknownsIn s) mostUnknowns .0 (b .1) in
       record {
         modulus = m .0;
         largest = m .1;
         hasUnknowns = n .0;
         unknowns = n .1;
-        equations = leb→le (s .held) mostEquations (c .1);
-        whole = eqb→eq (length (s .cells)) room (d .1);
-        residues = all-below (s .modulus) (linesIn s) .0 (e .1);
+        equations = leb→le (heldIn s) mostEquations (c .1);
+        whole = eqb→eq (length s) size (d .1);
+        residues = all-below (modulusIn s) (linesIn s) .0 (e .1);
       }
 
   pub fit-readable : Fit s → readable s ≡ true
   fit-readable f =
       true-of (readable s)
-      (yes-and upToWhole (allBelow (s .modulus) (linesIn s))
-      (yes-and upToHeld (eqb (length (s .cells)) room)
-      (yes-and (allowedModulus (s .modulus) && allowedUnknowns (s .unknowns)) (leb (s .held) mostEquations)
-      (yes-and (allowedModulus (s .modulus)) (allowedUnknowns (s .unknowns))
-      (within-range 2 (s .modulus) largestModulus .1 (f .modulus, f .largest))
-      (within-range 1 (s .unknowns) mostUnknowns .1 (f .hasUnknowns, f .unknowns)))
-      (le→leb (s .held) mostEquations (f .equations)))
+      (yes-and upToWhole (allBelow (modulusIn s) (linesIn s))
+      (yes-and upToHeld (eqb (length s) size)
+      (yes-and (allowedModulus (modulusIn s) && allowedUnknowns (unknownsIn s)) (leb (heldIn s) mostEquations)
+      (yes-and (allowedModulus (modulusIn s)) (allowedUnknowns (unknownsIn s))
+      (within-range 2 (modulusIn s) largestModulus .1 (f .modulus, f .largest))
+      (within-range 1 (unknownsIn s) mostUnknowns .1 (f .hasUnknowns, f .unknowns)))
+      (le→leb (heldIn s) mostEquations (f .equations)))
       (yes-eqb (f .whole)))
-      (all-below (s .modulus) (linesIn s) .1 (f .residues)))
+      (all-below (modulusIn s) (linesIn s) .1 (f .residues)))
 
-  pub filled-fits : Fit s → filled s ≤ length (s .cells)
+  pub cells-room : Fit s → length (cellsIn s) ≡ room
+  cells-room f = omega (arith, f .whole, length-drop 3 s)
+
+  pub filled-fits : Fit s → filled s ≤ length (cellsIn s)
   filled-fits f =
       omega (
         arith,
-        f .whole,
-        mul-le-mul {n₁ = s .held} {m₁ = s .unknowns + 1} {n₂ = 16} {m₂ = 17} (f .equations) (omega (arith, f .unknowns)),
+        cells-room f,
+        mul-le-mul {n₁ = heldIn s} {m₁ = unknownsIn s + 1} {n₂ = 16} {m₂ = 17} (f .equations) (omega (arith, f .unknowns)),
       )
 
   pub length-lines : Fit s → length (linesIn s) ≡ filled s
-  length-lines f = length-take-le (filled s) (s .cells) (filled-fits f)
+  length-lines f = length-take-le (filled s) (cellsIn s) (filled-fits f)
 
   -- the ledger that lies in the record, readable or not
   abbrev pub lying : Ledger
-  lying = opened (s .modulus) (s .unknowns) (equationsOf (s .unknowns) (linesIn s))
+  lying = opened (modulusIn s) (unknownsIn s) (equationsOf (unknownsIn s) (linesIn s))
 
   pub ledger-opened : readable s ≡ true
-      → ledgerOf s ≡ opened (s .modulus) (s .unknowns) (equationsOf (s .unknowns) (linesIn s))
+      → ledgerOf s ≡ opened (modulusIn s) (unknownsIn s) (equationsOf (unknownsIn s) (linesIn s))
   unfolding ledgerOf
   ledger-opened h = ap (λ (b : Bool). cond b lying unopened) h
 
@@ -112,19 +114,19 @@ module _ (s : Sheet) where
       ⊎-elim (λ r. r) (λ r. absurd (subst (λ (l : Ledger). T (isOpened l)) (ledger-unopened r) h))
       (true-or-false (readable s))
 
-  pub opened-posed : readable s ≡ true → Posed (s .modulus) (s .unknowns) (linesIn s)
+  pub opened-posed : readable s ≡ true → Posed (modulusIn s) (unknownsIn s) (linesIn s)
   opened-posed h =
       let f = readable-fit h in
       record {
         modulus = omega (arith, f .modulus);
         hasUnknowns = omega (arith, f .hasUnknowns);
         unknowns = f .unknowns;
-        whole = ap (λ (k : ℕ). k % (s .unknowns + 1)) (length-lines f) ∙ mul-mod-left (s .held) (s .unknowns + 1);
-        equations = omega (arith, length-lines f, mul-le-mul-right (s .unknowns + 1) (f .equations));
+        whole = ap (λ (k : ℕ). k % (unknownsIn s + 1)) (length-lines f) ∙ mul-mod-left (heldIn s) (unknownsIn s + 1);
+        equations = omega (arith, length-lines f, mul-le-mul-right (unknownsIn s + 1) (f .equations));
         residues = f .residues;
       }
 
-  pub held-counts : readable s ≡ true → length (equationsIn (ledgerOf s)) ≡ s .held
+  pub held-counts : readable s ≡ true → length (equationsIn (ledgerOf s)) ≡ heldIn s
   held-counts h =
       ap (λ (l : Ledger). length (equationsIn l)) (ledger-opened h)
-      ∙ equations-count (s .held) (s .unknowns) (linesIn s) (length-lines (readable-fit h))
+      ∙ equations-count (heldIn s) (unknownsIn s) (linesIn s) (length-lines (readable-fit h))

@@ -20,26 +20,25 @@ use Rattle.ledger.specs.Ledger.{Ledger, opened, mostEquations, mostUnknowns}
 use Rattle.ledger.specs.Questions.{allowedUnknowns}
 use Rattle.ledger.specs.History.{Effect, begins, gains, loses, changed, without}
 use Rattle.ledger.proofs.Effects.{Gains, Allows}
-use Rattle.sheet.specs.declared.Sheet.{Sheet}
-use Rattle.sheet.specs.Record.{room, cellsOf, linesIn, ledgerOf, writtenAt, recordBy}
-use Rattle.sheet.proofs.Reading.{Fit, filled, lying, readable-fit, fit-readable, length-lines, filled-fits, opened-readable, ledger-opened, held-counts}
+use Rattle.sheet.specs.Record.{Sheet, modulusIn, unknownsIn, heldIn, cellsIn, sheetOf, room, size, cellsOf, linesIn, ledgerOf, writtenAt, recordBy}
+use Rattle.sheet.proofs.Reading.{Fit, filled, lying, readable-fit, fit-readable, cells-room, length-lines, filled-fits, opened-readable, ledger-opened, held-counts}
 use Rattle.sheet.proofs.Joined.{equations-append, equations-drop, equation-line}
 
-fit-reads : (s : Sheet) → Fit s → (es : List Equation) → equationsOf (s .unknowns) (linesIn s) ≡ es
-    → ledgerOf s ≡ opened (s .modulus) (s .unknowns) es
-fit-reads s f es h = ledger-opened s (fit-readable s f) ∙ ap (opened (s .modulus) (s .unknowns)) h
+fit-reads : (s : Sheet) → Fit s → (es : List Equation) → equationsOf (unknownsIn s) (linesIn s) ≡ es
+    → ledgerOf s ≡ opened (modulusIn s) (unknownsIn s) es
+fit-reads s f es h = ledger-opened s (fit-readable s f) ∙ ap (opened (modulusIn s) (unknownsIn s)) h
 
 -- ---- a record without equations
 
-module _ (s : Sheet) (none : s .held ≡ 0) where
+module _ (s : Sheet) (none : heldIn s ≡ 0) where
   lines-none : linesIn s ≡ []
-  lines-none = ap (λ (k : ℕ). take k (s .cells)) (ap (λ (k : ℕ). k * (s .unknowns + 1)) none ∙ zero-mul (s .unknowns + 1))
+  lines-none = ap (λ (k : ℕ). take k (cellsIn s)) (ap (λ (k : ℕ). k * (unknownsIn s + 1)) none ∙ zero-mul (unknownsIn s + 1))
 
-  reads-empty : T (allowedModulus (s .modulus)) → T (allowedUnknowns (s .unknowns)) → length (s .cells) ≡ room
-      → ledgerOf s ≡ opened (s .modulus) (s .unknowns) []
+  reads-empty : T (allowedModulus (modulusIn s)) → T (allowedUnknowns (unknownsIn s)) → length s ≡ size
+      → ledgerOf s ≡ opened (modulusIn s) (unknownsIn s) []
   reads-empty modulus unknowns whole =
-      let m = within-range 2 (s .modulus) largestModulus .0 modulus in
-      let n = within-range 1 (s .unknowns) mostUnknowns .0 unknowns in
+      let m = within-range 2 (modulusIn s) largestModulus .0 modulus in
+      let n = within-range 1 (unknownsIn s) mostUnknowns .0 unknowns in
       let f : Fit s =
       record {
         modulus = m .0;
@@ -48,9 +47,9 @@ module _ (s : Sheet) (none : s .held ≡ 0) where
         unknowns = n .1;
         equations = omega (arith, none);
         whole = whole;
-        residues = subst (Below (s .modulus)) (sym lines-none) tt;
+        residues = subst (Below (modulusIn s)) (sym lines-none) tt;
       } in
-      fit-reads s f [] (equations-none (s .unknowns) (linesIn s) (omega (arith, ap length lines-none)))
+      fit-reads s f [] (equations-none (unknownsIn s) (linesIn s) (omega (arith, ap length lines-none)))
 
 -- ---- cells with numbers written from a place on
 
@@ -88,13 +87,13 @@ below-drop m (suc k) (x ∷ xs) h = below-drop m k xs (h .1)
 module _ (s : Sheet) (f : Fit s) where
   -- a record that differs in its cells and its count reads as the equations in its lines
   rewritten : (held : ℕ) (i : ℕ) (xs : List ℕ) → held ≤ mostEquations → i + length xs ≡ cellsOf s held
-      → cellsOf s held ≤ length (s .cells) → Below (s .modulus) (take i (s .cells)) → Below (s .modulus) xs
-      → (es : List Equation) → equationsOf (s .unknowns) (take i (s .cells) ++ xs) ≡ es
-      → ledgerOf (record { modulus = s .modulus; unknowns = s .unknowns; held = held; cells = writtenAt i xs (s .cells) })
-      ≡ opened (s .modulus) (s .unknowns) es
+      → cellsOf s held ≤ length (cellsIn s) → Below (modulusIn s) (take i (cellsIn s)) → Below (modulusIn s) xs
+      → (es : List Equation) → equationsOf (unknownsIn s) (take i (cellsIn s) ++ xs) ≡ es
+      → ledgerOf (sheetOf (modulusIn s) (unknownsIn s) held (writtenAt i xs (cellsIn s)))
+      ≡ opened (modulusIn s) (unknownsIn s) es
   rewritten held i xs few size fits front back es is =
-      let t : Sheet = record { modulus = s .modulus; unknowns = s .unknowns; held = held; cells = writtenAt i xs (s .cells) } in
-      let lines : linesIn t ≡ take i (s .cells) ++ xs = written-front i xs (s .cells) (omega arith) (cellsOf s held) size in
+      let t : Sheet = sheetOf (modulusIn s) (unknownsIn s) held (writtenAt i xs (cellsIn s)) in
+      let lines : linesIn t ≡ take i (cellsIn s) ++ xs = written-front i xs (cellsIn s) (omega arith) (cellsOf s held) size in
       let g : Fit t =
       record {
         modulus = f .modulus;
@@ -102,69 +101,69 @@ module _ (s : Sheet) (f : Fit s) where
         hasUnknowns = f .hasUnknowns;
         unknowns = f .unknowns;
         equations = few;
-        whole = written-length i xs (s .cells) (omega arith) ∙ f .whole;
-        residues = subst (Below (s .modulus)) (sym lines) (below-append (s .modulus) (take i (s .cells)) xs front back);
+        whole = omega (arith, written-length i xs (cellsIn s) (omega arith), cells-room s f);
+        residues = subst (Below (modulusIn s)) (sym lines) (below-append (modulusIn s) (take i (cellsIn s)) xs front back);
       } in
-      fit-reads t g es (ap (equationsOf (s .unknowns)) lines ∙ is)
+      fit-reads t g es (ap (equationsOf (unknownsIn s)) lines ∙ is)
 
-  pub more-fits : s .held < mostEquations → cellsOf s (s .held + 1) ≤ length (s .cells)
+  pub more-fits : heldIn s < mostEquations → cellsOf s (heldIn s + 1) ≤ length (cellsIn s)
   more-fits under =
       omega (
         arith,
-        f .whole,
-        mul-le-mul {n₁ = s .held + 1} {m₁ = s .unknowns + 1} {n₂ = 16} {m₂ = 17} (omega (arith, under))
+        cells-room s f,
+        mul-le-mul {n₁ = heldIn s + 1} {m₁ = unknownsIn s + 1} {n₂ = 16} {m₂ = 17} (omega (arith, under))
             (omega (arith, f .unknowns)),
       )
 
-  reads-gaining : (e : Equation) → Gains (lying s) e → s .held < mostEquations
+  reads-gaining : (e : Equation) → Gains (lying s) e → heldIn s < mostEquations
       → ledgerOf (recordBy s (gains e)) ≡ changed (lying s) (gains e)
   reads-gaining e g under =
       let line = e .coefficients ++ (e .right ∷ []) in
-      let long : length line ≡ s .unknowns + 1 = omega (arith, length-append (e .coefficients) (e .right ∷ []), g .shaped) in
-      rewritten (s .held + 1) (filled s) line (omega arith) (omega (arith, long)) (more-fits under) (f .residues)
-      (below-append (s .modulus) (e .coefficients) (e .right ∷ []) (g .coefficients) (g .right, tt)) _
-      (equations-snoc (s .held) (s .unknowns) (linesIn s) line (length-lines s f) long
-      ∙ ap (λ (last : Equation). equationsOf (s .unknowns) (linesIn s) ++ (last ∷ [])) (equation-line (s .unknowns) e (g .shaped)))
+      let long : length line ≡ unknownsIn s + 1 = omega (arith, length-append (e .coefficients) (e .right ∷ []), g .shaped) in
+      rewritten (heldIn s + 1) (filled s) line (omega arith) (omega (arith, long)) (more-fits under) (f .residues)
+      (below-append (modulusIn s) (e .coefficients) (e .right ∷ []) (g .coefficients) (g .right, tt)) _
+      (equations-snoc (heldIn s) (unknownsIn s) (linesIn s) line (length-lines s f) long
+      ∙ ap (λ (last : Equation). equationsOf (unknownsIn s) (linesIn s) ++ (last ∷ [])) (equation-line (unknownsIn s) e (g .shaped)))
 
-  module _ (j : ℕ) (place : j < s .held) where
+  module _ (j : ℕ) (place : j < heldIn s) where
     abbrev behind : List ℕ
     behind = drop (cellsOf s (suc j)) (linesIn s)
 
     upTo : cellsOf s (suc j) ≤ filled s
-    upTo = mul-le-mul-right (s .unknowns + 1) (omega arith)
+    upTo = mul-le-mul-right (unknownsIn s + 1) (omega arith)
 
-    behind-length : cellsOf s j + length behind ≡ cellsOf s (s .held - 1)
+    behind-length : cellsOf s j + length behind ≡ cellsOf s (heldIn s - 1)
     behind-length =
-        let fewer : s .held ≡ suc (s .held - 1) = omega arith in
+        let fewer : heldIn s ≡ suc (heldIn s - 1) = omega arith in
         omega (arith, length-drop (cellsOf s (suc j)) (linesIn s), length-lines s f, upTo, ap (cellsOf s) fewer)
 
-    front : take (cellsOf s j) (s .cells) ≡ take (cellsOf s j) (linesIn s)
-    front = sym (take-take (cellsOf s j) (filled s) (s .cells) (omega (arith, upTo)))
+    front : take (cellsOf s j) (cellsIn s) ≡ take (cellsOf s j) (linesIn s)
+    front = sym (take-take (cellsOf s j) (filled s) (cellsIn s) (omega (arith, upTo)))
 
-    front-length : length (take (cellsOf s j) (s .cells)) ≡ cellsOf s j
-    front-length = length-take-le (cellsOf s j) (s .cells) (omega (arith, upTo, filled-fits s f))
+    front-length : length (take (cellsOf s j) (cellsIn s)) ≡ cellsOf s j
+    front-length = length-take-le (cellsOf s j) (cellsIn s) (omega (arith, upTo, filled-fits s f))
 
-    equations-left : equationsOf (s .unknowns) (take (cellsOf s j) (s .cells) ++ behind)
-        ≡ without j (equationsOf (s .unknowns) (linesIn s))
+    equations-left : equationsOf (unknownsIn s) (take (cellsOf s j) (cellsIn s) ++ behind)
+        ≡ without j (equationsOf (unknownsIn s) (linesIn s))
     equations-left =
-        equations-append j (s .unknowns) (take (cellsOf s j) (s .cells)) behind front-length
+        equations-append j (unknownsIn s) (take (cellsOf s j) (cellsIn s)) behind front-length
         ∙ ap₂ {C = List Equation} _++_
-        (ap (equationsOf (s .unknowns)) front
-        ∙ equations-take j (s .unknowns) (linesIn s) (omega (arith, upTo, length-lines s f)))
-        (equations-drop (suc j) (s .unknowns) (linesIn s) (omega (arith, upTo, length-lines s f)))
+        (ap (equationsOf (unknownsIn s)) front
+        ∙ equations-take j (unknownsIn s) (linesIn s) (omega (arith, upTo, length-lines s f)))
+        (equations-drop (suc j) (unknownsIn s) (linesIn s) (omega (arith, upTo, length-lines s f)))
 
     reads-losing : ledgerOf (recordBy s (loses j)) ≡ changed (lying s) (loses j)
     reads-losing =
-        rewritten (s .held - 1) (cellsOf s j) behind (omega (arith, f .equations)) behind-length
+        rewritten (heldIn s - 1) (cellsOf s j) behind (omega (arith, f .equations)) behind-length
         (omega (arith, behind-length, length-drop (cellsOf s (suc j)) (linesIn s), length-lines s f, upTo, filled-fits s f))
-        (subst (Below (s .modulus)) (sym front) (below-take (s .modulus) (cellsOf s j) (linesIn s) (f .residues)))
-        (below-drop (s .modulus) (cellsOf s (suc j)) (linesIn s) (f .residues)) _ equations-left
+        (subst (Below (modulusIn s)) (sym front) (below-take (modulusIn s) (cellsOf s j) (linesIn s) (f .residues)))
+        (below-drop (modulusIn s) (cellsOf s (suc j)) (linesIn s) (f .residues)) _ equations-left
 
 -- ---- by effect
 
 pub changed-reads : (s : Sheet) (e : Effect) → Allows (ledgerOf s) e → ledgerOf (recordBy s e) ≡ changed (ledgerOf s) e
 changed-reads s (begins m n) (modulus, unknowns) =
-    reads-empty (recordBy s (begins m n)) refl modulus unknowns (length-replicate {A = ℕ} room 0)
+    reads-empty (recordBy s (begins m n)) refl modulus unknowns (omega (arith, length-replicate {A = ℕ} room 0))
 changed-reads s (gains e) g =
     let reads = opened-readable s (g .opened) in
     let same = ledger-opened s reads in

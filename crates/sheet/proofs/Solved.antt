@@ -31,8 +31,7 @@ use Rattle.ledger.specs.Block.{blockWords, answerWords}
 use Rattle.ledger.specs.Calls.{answersFromTape, queries}
 use Rattle.ledger.specs.Questions.{refusalOf}
 use Rattle.ledger.proofs.Blocks.{block-words-length}
-use Rattle.sheet.specs.declared.Sheet.{Sheet}
-use Rattle.sheet.specs.Record.{linesIn, ledgerOf}
+use Rattle.sheet.specs.Record.{Sheet, unknownsIn, heldIn, linesIn, ledgerOf}
 use Rattle.sheet.specs.Calls.{shownOf}
 use Rattle.sheet.proofs.Reading.{readable-fit, length-lines, opened-readable, ledger-opened}
 
@@ -52,8 +51,8 @@ reads-small s is =
       positive = omega (arith, f .modulus);
       largest = f .largest;
       unknowns = f .unknowns;
-      equations = omega (arith, f .equations, equations-count (s .held) (s .unknowns) (linesIn s) (length-lines s f));
-      shaped = equations-shaped (s .unknowns) (linesIn s);
+      equations = omega (arith, f .equations, equations-count (heldIn s) (unknownsIn s) (linesIn s) (length-lines s f));
+      shaped = equations-shaped (unknownsIn s) (linesIn s);
     })
 
 abbrev pub blockIn : Ledger → List ℕ

@@ -8,8 +8,7 @@ use Rattle.ledger.specs.Calls.{Entry, enters}
 use Rattle.ledger.specs.Questions.{refusalOf}
 use Rattle.ledger.specs.History.{effectOf, changed, enter}
 use Rattle.ledger.proofs.Effects.{accepted-allows}
-use Rattle.sheet.specs.declared.Sheet.{Sheet}
-use Rattle.sheet.specs.Record.{ledgerOf, recordBy}
+use Rattle.sheet.specs.Record.{Sheet, ledgerOf, recordBy}
 use Rattle.sheet.specs.Calls.{sheetAfter}
 use Rattle.sheet.proofs.Records.{changed-reads}
 

@@ -13,8 +13,6 @@ use Rattle.ledger.specs.Marking.{claimMark}
 use Rattle.ledger.specs.Calls.{Entry, answersFromTape, marks, enters, queries}
 use Rattle.ledger.specs.Questions.{refusalOf}
 use Rattle.ledger.specs.History.{effectOf, enter}
-use Rattle.sheet.specs.declared.Sheet.{Sheet}
-use Rattle.sheet.specs.declared.Turn.{Turn}
 use Rattle.sheet.specs.declared.Entered.{Entered}
 use Rattle.sheet.specs.declared.Entered.the-variants.{Holds, Refused as Entered·Refused}
 use Rattle.sheet.specs.declared.answering.Answered.{Answered}
@@ -22,19 +20,15 @@ use Rattle.sheet.specs.declared.answering.Answered.the-variants.{Wrote, 
 use Rattle.sheet.specs.declared.answering.Shown.{Shown}
 use Rattle.sheet.specs.declared.marking.Marked.{Marked}
 use Rattle.sheet.specs.declared.marking.Marked.the-variants.{Gets, Refused as Marked·Refused}
-use Rattle.sheet.specs.Record.{room, ledgerOf, recordBy}
+use Rattle.sheet.specs.Record.{Sheet, ledgerOf, recordBy}
 
 -- Open, add and strike: "the equations then held", or the number of the question that turned the call away.
 unfoldable pub enteredOf : Ledger → Entry → Entered
 enteredOf l e = unlessRefused Entered·Refused (refusalOf l (enters e)) (Holds (length (equationsIn (enter l (enters e)))))
 
--- The sheet after them: the new record, or the old one where the call is refused.
+-- The sheet after them: the new numbers, or the old ones where the call is refused.
 unfoldable pub sheetAfter : Sheet → Entry → Sheet
 sheetAfter s e = unlessRefused (λ (k : ℕ). s) (refusalOf (ledgerOf s) (enters e)) (recordBy s (effectOf (ledgerOf s) e))
-
--- All that they give back.
-unfoldable pub turnOf : Sheet → Entry → Turn
-turnOf s e = record { sheet = sheetAfter s e; entered = enteredOf (ledgerOf s) e }
 
 -- Answer: the block's words, and how many they are. "Answer: opened? 4."; 8 is asked of every reply.
 abbrev pub answerReply : Ledger → Reply Answered
@@ -50,7 +44,7 @@ bufferAfter l old = memoryAfter (answerReply l) old
 
 -- no block: all of it is 0
 abbrev pub noBlock : Answer
-noBlock = record { head = 0; len = 0; numbers = replicate room 0 }
+noBlock = record { head = 0; len = 0; numbers = replicate 272 0 }
 
 -- Answer from tape: the numbers of the block, or the refusal.
 unfoldable pub shownOf : Ledger → ℕ → Shown

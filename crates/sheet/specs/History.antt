@@ -2,14 +2,12 @@
 -- it returned or left, refused or not." Definitions only.
 use mathlib.Core.List.{List, [], _∷_}
 use Rattle.ledger.specs.Calls.{Call, enters, queries}
-use Rattle.sheet.specs.declared.Sheet.{Sheet}
-use Rattle.sheet.specs.Record.{fresh}
-use Rattle.sheet.specs.Calls.{turnOf}
+use Rattle.sheet.specs.Record.{Sheet, fresh}
+use Rattle.sheet.specs.Calls.{sheetAfter}
 
--- The sheet that a call returned or left. A query takes the sheet by value and returns none: the caller's sheet is then the one
--- passed. So it is with a word on tape that picks no call, which calls nothing.
+-- The sheet that a call left. A query only reads it, and so does a word on tape that picks no call.
 abbrev pub left : Sheet → Call → Sheet
-left s (enters e) = turnOf s e .sheet
+left s (enters e) = sheetAfter s e
 left s (queries q) = s
 
 -- the sheet after more calls
@@ -18,6 +16,6 @@ sheetFrom s [] = s
 sheetFrom s (c ∷ calls) = sheetFrom (left s c) calls
 
 -- The sheet after the calls, the first of them on a fresh sheet. "Each call gets the sheet as the one before left it, and
--- nobody else writes it meanwhile": it goes by value from call to call.
+-- nobody else writes it meanwhile": its memory is the caller's.
 abbrev pub after : List Call → Sheet
 after calls = sheetFrom fresh calls

@@ -1,16 +1,16 @@
 -- Demand 3, in the customer's words, and what stands beside it. Each promise is a type; proofs/Promises.antt keeps it.
 --
--- Why this is about the code: `turnOf`, `answeredOf`, `bufferAfter`, `shownOf` and `markedOf` are what the contracts of open, add,
--- strike, answer and mark say that the calls give back and leave, for every sheet, all words and any buffer. `after` puts each
--- call's sheet into the next call. So `after calls` is the sheet that the caller has after the calls, and what is promised here
--- of those five names at that sheet is what the next call does. `ledger` sees the calls alone. Definitions only.
+-- Why this is about the code: `enteredOf`, `sheetAfter`, `answeredOf`, `bufferAfter`, `shownOf` and `markedOf` are what the contracts of
+-- open, add, strike, answer and mark say that the calls give back and leave, those of the C calls too, for every sheet, all words and any
+-- buffer. `after` puts the sheet that a call left into the next call. So `after calls` is what the caller's memory holds after the calls,
+-- and what is promised here of those names at that sheet is what the next call does. `ledger` sees the calls alone. Definitions only.
 use mathlib.Core.Path.{_≡_}
 use mathlib.Core.Logic.{_↔_}
-use mathlib.Core.List.{List, _∷_, _++_, flatten}
+use mathlib.Core.List.{List, [], _∷_, _++_, flatten}
 use mathlib.Core.Option.{some}
 use Prim.Native.Nat.{ℕ, suc, _<_, _≤_}
 use lib.Dec.{T}
-use lib.ListN.{length, take, getD}
+use lib.ListN.{length, take, getD, replicate}
 use Rattle.slices.specs.Over.{over}
 use Rattle.questions.specs.Questions.{unlessRefused}
 use Rattle.equations.specs.Vectors.{Vector}
@@ -21,22 +21,22 @@ use Rattle.equations.specs.declared.Mark.the-variants.{Pass, Fail}
 use Rattle.equations.specs.Claim.{Claim, describes}
 use Rattle.system.specs.Block.{answerOf}
 use Rattle.words.specs.Words.{word, wordsIn, wordsOf, headKind, entryKind, multiplierKind}
-use Rattle.ledger.specs.Ledger.{opened, modulusOf, unknownsOf, equationsIn}
+use Rattle.ledger.specs.Ledger.{unopened, opened, modulusOf, unknownsOf, equationsIn}
 use Rattle.ledger.specs.Allowed.{Allowed}
 use Rattle.ledger.specs.Shapes.{isClaim, entriesOf, claimFrom}
 use Rattle.ledger.specs.Block.{longestBlock, blockWords, answerWords}
 use Rattle.ledger.specs.Marking.{claimMark}
 use Rattle.ledger.specs.Calls.{Call, Entry, opens, answers, answersFromTape, marks, enters, queries}
 use Rattle.ledger.specs.Questions.{plain, refusalOf}
-use Rattle.ledger.specs.History.{enter, ledger}
+use Rattle.ledger.specs.History.{enter, ledgerFrom, ledger}
 use Rattle.sheet.specs.declared.Entered.the-variants.{Holds, Refused as Entered·Refused}
 use Rattle.sheet.specs.declared.answering.Answered.the-variants.{Wrote, Refused as Answered·Refused}
 use Rattle.sheet.specs.declared.answering.Shown.{Shown}
 use Rattle.sheet.specs.declared.marking.Marked.{Marked}
 use Rattle.sheet.specs.declared.marking.Marked.the-variants.{Gets, Refused as Marked·Refused}
-use Rattle.sheet.specs.Record.{ledgerOf}
-use Rattle.sheet.specs.Calls.{turnOf, answeredOf, bufferAfter, noBlock, shownOf, markedOf}
-use Rattle.sheet.specs.History.{left, after}
+use Rattle.sheet.specs.Record.{Sheet, size, ledgerOf}
+use Rattle.sheet.specs.Calls.{enteredOf, answeredOf, bufferAfter, noBlock, shownOf, markedOf}
+use Rattle.sheet.specs.History.{left, sheetFrom, after}
 
 -- "refused calls anywhere in it and at least one opening accepted": by the questions, asked of the ledger at that place
 abbrev pub OpeningAccepted : List Call → Type 0
@@ -115,7 +115,7 @@ pub record Decided (calls : List Call) : Type 0 where
   pub reads : ledgerOf (after calls) ≡ ledger calls
   -- "Nothing is turned away except by a question in document 01, with that question's number"
   pub entering : (e : Entry)
-      → turnOf (after calls) e .entered
+      → enteredOf (ledgerOf (after calls)) e
       ≡ unlessRefused Entered·Refused (refusalOf (ledger calls) (enters e)) (Holds (length (equationsIn (enter (ledger calls) (enters e)))))
   pub answering : (old : List ℕ)
       → answeredOf (ledgerOf (after calls)) old
@@ -142,3 +142,11 @@ OwnBlockPasses =
     → ledger calls ≡ opened m n es → (NothingSolves m n es → ⊥) → length (answerWords (ledger calls)) ≤ length old
     → markedOf (ledgerOf (after calls)) (take (length (answerWords (ledger calls))) (bufferAfter (ledgerOf (after calls)) old))
     ≡ Gets Pass
+
+-- Zeroed memory is a sheet on which no call was made yet, and it is unopened.
+abbrev pub ZerosAreFresh : Type 0
+ZerosAreFresh = (replicate size 0 ≡ after []) × (ledgerOf (replicate size 0) ≡ unopened)
+
+-- Whatever numbers the memory holds at first, calls go on from the ledger that they read as.
+abbrev pub ReadsOn : Type 0
+ReadsOn = (s : Sheet) (calls : List Call) → ledgerOf (sheetFrom s calls) ≡ ledgerFrom (ledgerOf s) calls

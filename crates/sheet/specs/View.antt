@@ -1,17 +1,32 @@
--- What a call that neither opens, adds nor strikes sees of a sheet. Definitions only.
+-- What a call that neither opens, adds nor strikes sees of a sheet, and what one of the others says that it holds. Definitions only.
 use mathlib.Core.Path.{_≡_}
-use Prim.Native.Nat.{_≤_}
+use mathlib.Core.List.{List}
+use Prim.Native.Nat.{ℕ, _-_, _≤_}
 use lib.Dec.{T}
-use lib.ListN.{length, take}
+use lib.ListN.{length, take, drop}
 use Rattle.equations.specs.Lines.{equationsOf}
 use Rattle.system.specs.Posed.{Posed}
-use Rattle.ledger.specs.Ledger.{Ledger, isOpened, equationsIn}
+use Rattle.ledger.specs.Ledger.{isOpened, equationsIn}
 use Rattle.asking.specs.Sees.{Sees}
+use Rattle.sheet.specs.declared.Entered.{Entered}
+use Rattle.sheet.specs.declared.Entered.the-variants.{Holds, Refused}
 use Rattle.sheet.specs.declared.viewing.View.{View}
+use Rattle.sheet.specs.Record.{Sheet, ledgerOf}
 
--- what the questions see; and of an opened sheet the ledger's equations, which may be asked about
-pub record Views (l : Ledger) (view : View) : Type 0 where
-  pub sees : Sees l (view .seen)
-  pub fits : view .len ≤ length (view .lines)
-  pub posed : T (isOpened l) → Posed (view .seen .modulus) (view .seen .unknowns) (take (view .len) (view .lines))
-  pub equations : T (isOpened l) → equationsOf (view .seen .unknowns) (take (view .len) (view .lines)) ≡ equationsIn l
+-- the numbers between the place where the cells begin and an end
+abbrev pub linesTo : ℕ → Sheet → List ℕ
+linesTo end s = take (end - 3) (drop 3 s)
+
+-- what the questions see; and of an opened sheet where the ledger's equations end, which may be asked about
+pub record Views (s : Sheet) (view : View) : Type 0 where
+  pub sees : Sees (ledgerOf s) (view .seen)
+  pub begins : 3 ≤ view .end
+  pub fits : T (isOpened (ledgerOf s)) → view .end ≤ length s
+  pub posed : T (isOpened (ledgerOf s)) → Posed (view .seen .modulus) (view .seen .unknowns) (linesTo (view .end) s)
+  pub equations : T (isOpened (ledgerOf s))
+      → equationsOf (view .seen .unknowns) (linesTo (view .end) s) ≡ equationsIn (ledgerOf s)
+
+-- the equations held, if a call says so
+abbrev pub heldBy : Entered → ℕ
+heldBy (Holds k) = k
+heldBy (Refused k) = 0

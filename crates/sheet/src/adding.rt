@@ -7,51 +7,45 @@ ghost use Rattle.equations.specs.Lines.{equationAt};
 ghost use Rattle.ledger.specs.Ledger.{isOpened, mostEquations};
 ghost use Rattle.ledger.specs.Calls.{adds};
 ghost use Rattle.ledger.specs.History.{gains};
-ghost use Rattle.sheet.specs.Record.{ledgerOf, recordBy};
-ghost use Rattle.sheet.specs.Calls.{turnOf};
+ghost use Rattle.sheet.specs.Record.{unknownsIn, heldIn, ledgerOf, recordBy};
+ghost use Rattle.sheet.specs.Calls.{enteredOf, sheetAfter};
+use crate::CELLS_AT;
 use crate::Entered;
+use crate::HELD_AT;
 use crate::Sheet;
-use crate::Turn;
+use crate::UNKNOWNS_AT;
+use crate::wide;
 use asking::entries::EQUATION_ROOM;
 use asking::entries::add_refusal;
 use slices::copying::copy;
 
 impl Sheet {
-    pub fn add(self, words: &[u32]) -> Turn
-        ensures { λ r. ⌜ r ≡ turnOf self (adds (now (words .entry))) ⌝ }
+    pub fn add(sheet: &mut [u32; Sheet::SIZE], words: &[u32]) -> Entered
+        ensures { λ r. ⌜ r ≡ enteredOf (ledgerOf (now (sheet .entry))) (adds (now (words .entry))) ⌝ }
+        ensures { λ _. ⌜ now (sheet .exit) ≡ sheetAfter (now (sheet .entry)) (adds (now (words .entry))) ⌝ }
     {
-        let seen = self.seen();
+        let seen = Sheet::seen(sheet);
         let mut numbers = [0u32; EQUATION_ROOM];
         let refusal = add_refusal(seen, words, &mut numbers);
         if refusal != 0 {
-            return self.refused(refusal);
+            return Entered::Refused(refusal);
         }
         let width = seen.unknowns + 1;
-        self.with_line(&numbers[..width])
+        with_line(sheet, &numbers[..width]);
+        Entered::Holds(seen.held + 1)
     }
+}
 
-    // The equation goes behind the last, also where nothing solves those before it.
-    fn with_line(self, line: &[u32]) -> Turn
-        requires { ⌜ T (isOpened (ledgerOf self)) × (self .held < mostEquations) × (length (now line) ≡ self .unknowns + 1) ⌝ }
-        ensures { λ r. ⌜ r ≡ record {
-          sheet = recordBy self (gains (equationAt (self .unknowns) (now (line .entry))));
-          entered = Entered.Holds (self .held + 1);
-        } ⌝ }
-    {
-        let n = self.unknowns;
-        let held = self.held;
-        let mut cells = self.cells;
-        let at = held * (n + 1);
-        copy(line, &mut cells[at..]);
-        let more = held + 1;
-        Turn {
-            sheet: Sheet {
-                modulus: self.modulus,
-                unknowns: n,
-                held: more,
-                cells: cells,
-            },
-            entered: Entered::Holds(more),
-        }
-    }
+// The equation goes behind the last, also where nothing solves those before it.
+fn with_line(sheet: &mut [u32], line: &[u32])
+    requires { ⌜ T (isOpened (ledgerOf (now sheet))) × (heldIn (now sheet) < mostEquations)
+        × (length (now line) ≡ unknownsIn (now sheet) + 1) ⌝ }
+    ensures { λ _. ⌜ now (sheet .exit)
+        ≡ recordBy (now (sheet .entry)) (gains (equationAt (unknownsIn (now (sheet .entry))) (now (line .entry)))) ⌝ }
+{
+    let held = sheet[HELD_AT];
+    let width = wide(sheet[UNKNOWNS_AT]) + 1;
+    let at = CELLS_AT + wide(held) * width;
+    copy(line, &mut sheet[at..]);
+    sheet[HELD_AT] = held + 1;
 }

@@ -1,12 +1,12 @@
 // The answer to a sheet's equations: as a block of words, or as its numbers.
 ghost use mathlib.Core.Path.{_≡_};
-ghost use Prim.Native.Nat.{_≤_};
-ghost use lib.ListN.{length, take};
-ghost use Rattle.equations.specs.Lines.{equationsOf};
-ghost use Rattle.system.specs.Posed.{Posed};
+ghost use lib.Dec.{T};
 ghost use Rattle.system.specs.Block.{answerOf};
+ghost use Rattle.ledger.specs.Ledger.{isOpened, modulusOf, unknownsOf, equationsIn};
 ghost use Rattle.sheet.specs.Record.{ledgerOf};
 ghost use Rattle.sheet.specs.Calls.{answeredOf, bufferAfter, noBlock, shownOf};
+ghost use Rattle.sheet.specs.View.{Views};
+use crate::CELLS_AT;
 use crate::Sheet;
 use crate::viewing::View;
 use asking::queries::answer_word_refusal;
@@ -29,16 +29,16 @@ pub struct Shown {
 
 impl Sheet {
     // Head, starting vector and steps, or head and multipliers, at the front of the buffer.
-    pub fn answer(self, buffer: &mut [u32]) -> Answered
-        ensures { λ r. ⌜ r ≡ answeredOf (ledgerOf self) (now (buffer .entry)) ⌝ }
-        ensures { λ _. ⌜ now (buffer .exit) ≡ bufferAfter (ledgerOf self) (now (buffer .entry)) ⌝ }
+    pub fn answer(sheet: &[u32; Sheet::SIZE], buffer: &mut [u32]) -> Answered
+        ensures { λ r. ⌜ r ≡ answeredOf (ledgerOf (now (sheet .entry))) (now (buffer .entry)) ⌝ }
+        ensures { λ _. ⌜ now (buffer .exit) ≡ bufferAfter (ledgerOf (now (sheet .entry))) (now (buffer .entry)) ⌝ }
     {
-        let view = self.view();
+        let view = Sheet::view(sheet);
         let seen = view.seen;
         if !seen.opened {
             return Answered::Refused(4);
         }
-        let block = block_of(view);
+        let block = block_of(sheet, view);
         let len = block.len;
         let size = len + 1;
         if buffer.len() < size {
@@ -50,13 +50,13 @@ impl Sheet {
     }
 
     // An answer from tape, with its word.
-    pub fn answer_from_tape(self, word: u32) -> Shown
-        ensures { λ r. ⌜ r ≡ shownOf (ledgerOf self) word ⌝ }
+    pub fn answer_from_tape(sheet: &[u32; Sheet::SIZE], word: u32) -> Shown
+        ensures { λ r. ⌜ r ≡ shownOf (ledgerOf (now (sheet .entry))) word ⌝ }
     {
-        let view = self.view();
+        let view = Sheet::view(sheet);
         let refusal = answer_word_refusal(view.seen, word);
         let block = if refusal == 0 {
-            block_of(view)
+            block_of(sheet, view)
         } else {
             no_block()
         };
@@ -68,16 +68,14 @@ impl Sheet {
 }
 
 // The block that answers the equations.
-fn block_of(view: View) -> Answer
-    requires { ⌜ (view .len ≤ length (view .lines))
-        × Posed (view .seen .modulus) (view .seen .unknowns) (take (view .len) (view .lines)) ⌝ }
-    ensures { λ r. ⌜ r ≡ answerOf (view .seen .modulus) (view .seen .unknowns)
-        (equationsOf (view .seen .unknowns) (take (view .len) (view .lines))) ⌝ }
+fn block_of(sheet: &[u32], view: View) -> Answer
+    requires { ⌜ Views (now sheet) view × T (isOpened (ledgerOf (now sheet))) ⌝ }
+    ensures { λ r. ⌜ r ≡ answerOf (modulusOf (ledgerOf (now (sheet .entry)))) (unknownsOf (ledgerOf (now (sheet .entry))))
+        (equationsIn (ledgerOf (now (sheet .entry)))) ⌝ }
 {
     let seen = view.seen;
-    let len = view.len;
-    let lines = view.lines;
-    solve(seen.modulus, seen.unknowns, &lines[..len])
+    let end = view.end;
+    solve(seen.modulus, seen.unknowns, &sheet[CELLS_AT..end])
 }
 
 fn no_block() -> Answer

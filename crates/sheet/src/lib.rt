@@ -1,5 +1,5 @@
-// A sheet of equations: opened with a modulus and a number of unknowns, then filled and emptied one equation at a time,
-// answered and marked. Every call takes any sheet, any words and any buffer.
+// A sheet of equations in its caller's memory: opened with a modulus and a number of unknowns, then filled and emptied one equation at a
+// time, answered and marked. Every call takes any numbers for a sheet, any words and any buffer, and works where the sheet lies.
 pub mod adding;
 pub mod answering;
 pub mod marking;
@@ -11,25 +11,24 @@ ghost use mathlib.Core.Path.{_≡_};
 ghost use Rattle.sheet.specs.Record.{fresh};
 use system::limits;
 
-// The equations lie one behind the other at the front of the cells: as many coefficients as there are unknowns, then the
-// right side. There is room for 16 of them with 16 unknowns.
+// The places of the modulus, the unknowns and the number of equations held, and the first one of the cells. The equations lie one behind
+// the other at the front of the cells: as many coefficients as there are unknowns, then the right side.
+pub(crate) const MODULUS_AT: usize = 0;
+
+pub(crate) const UNKNOWNS_AT: usize = 1;
+
+pub(crate) const HELD_AT: usize = 2;
+
+pub(crate) const CELLS_AT: usize = 3;
+
 pub struct Sheet {
-    modulus: u32,
-    unknowns: usize,
-    held: usize,
-    cells: [u32; limits::CELLS],
+    pub numbers: [u32; Sheet::SIZE],
 }
 
 // What open, add and strike say: how many equations the sheet then holds, or the number of a refusal.
 pub enum Entered {
     Holds(usize),
     Refused(u32),
-}
-
-// What open, add and strike give back.
-pub struct Turn {
-    pub sheet: Sheet,
-    pub entered: Entered,
 }
 
 pub(crate) fn wide(x: u32) -> usize
@@ -43,25 +42,15 @@ impl Sheet {
 
     pub const UNKNOWNS: usize = limits::UNKNOWNS;
 
+    // Room for one number more in each equation than calls put there today.
+    pub const SIZE: usize = CELLS_AT + limits::EQUATIONS * (limits::LINE + 1);
+
     // No modulus yet: the sheet is unopened.
     pub fn fresh() -> Sheet
-        ensures { λ r. ⌜ r ≡ fresh ⌝ }
+        ensures { λ r. ⌜ r .numbers ≡ fresh ⌝ }
     {
         Sheet {
-            modulus: 0,
-            unknowns: 0,
-            held: 0,
-            cells: [0u32; limits::CELLS],
-        }
-    }
-
-    // A refused call keeps the sheet.
-    pub(crate) fn refused(self, number: u32) -> Turn
-        ensures { λ r. ⌜ r ≡ record { sheet = self; entered = Entered.Refused number } ⌝ }
-    {
-        Turn {
-            sheet: self,
-            entered: Entered::Refused(number),
+            numbers: [0u32; Sheet::SIZE],
         }
     }
 }

@@ -2,6 +2,7 @@
 ghost use mathlib.Core.Path.{_≡_};
 ghost use Rattle.sheet.specs.Record.{ledgerOf};
 ghost use Rattle.sheet.specs.Calls.{markedOf};
+use crate::CELLS_AT;
 use crate::Sheet;
 use crate::wide;
 use asking::queries::CLAIM_ROOM;
@@ -17,10 +18,10 @@ pub enum Marked {
 
 impl Sheet {
     // The numbers of the entries are marked, so many times n as the head says.
-    pub fn mark(self, words: &[u32]) -> Marked
-        ensures { λ r. ⌜ r ≡ markedOf (ledgerOf self) (now (words .entry)) ⌝ }
+    pub fn mark(sheet: &[u32; Sheet::SIZE], words: &[u32]) -> Marked
+        ensures { λ r. ⌜ r ≡ markedOf (ledgerOf (now (sheet .entry))) (now (words .entry)) ⌝ }
     {
-        let view = self.view();
+        let view = Sheet::view(sheet);
         let seen = view.seen;
         let mut numbers = [0u32; CLAIM_ROOM];
         let refusal = mark_refusal(seen, words, &mut numbers);
@@ -29,9 +30,9 @@ impl Sheet {
         }
         let n = seen.unknowns;
         let end = wide(numbers[0]) * n + 1;
-        let len = view.len;
-        let lines = view.lines;
-        if claim_passes(seen.modulus, n, &lines[..len], &numbers[1..end]) {
+        let lines_end = view.end;
+        let all = &sheet[..];
+        if claim_passes(seen.modulus, n, &all[CELLS_AT..lines_end], &numbers[1..end]) {
             return Marked::Gets(Mark::Pass);
         }
         Marked::Gets(Mark::Fail)

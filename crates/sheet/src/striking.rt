@@ -1,65 +1,48 @@
 // Striking the last equation of a sheet.
 ghost use mathlib.Core.Path.{_≡_};
-ghost use Prim.Native.Nat.{_-_, _<_};
+ghost use Prim.Native.Nat.{_<_};
 ghost use lib.Dec.{T};
 ghost use Rattle.ledger.specs.Ledger.{isOpened};
-ghost use Rattle.ledger.specs.Calls.{strikes, strikesFromTape};
+ghost use Rattle.ledger.specs.Calls.{strikes};
 ghost use Rattle.ledger.specs.History.{loses};
-ghost use Rattle.sheet.specs.Record.{ledgerOf, recordBy};
-ghost use Rattle.sheet.specs.Calls.{turnOf};
+ghost use Rattle.sheet.specs.Record.{heldIn, ledgerOf, recordBy};
+ghost use Rattle.sheet.specs.Calls.{enteredOf, sheetAfter};
+use crate::CELLS_AT;
 use crate::Entered;
+use crate::HELD_AT;
 use crate::Sheet;
-use crate::Turn;
+use crate::UNKNOWNS_AT;
+use crate::wide;
 use asking::entries::strike_refusal;
-use asking::entries::strike_word_refusal;
-use slices::copying::copy;
+use slices::copying::move_up;
 
 impl Sheet {
-    pub fn strike(self) -> Turn
-        ensures { λ r. ⌜ r ≡ turnOf self strikes ⌝ }
+    // A strike with the number of its word.
+    pub fn strike(sheet: &mut [u32; Sheet::SIZE], number: u32) -> Entered
+        ensures { λ r. ⌜ r ≡ enteredOf (ledgerOf (now (sheet .entry))) (strikes number) ⌝ }
+        ensures { λ _. ⌜ now (sheet .exit) ≡ sheetAfter (now (sheet .entry)) (strikes number) ⌝ }
     {
-        let seen = self.seen();
-        let refusal = strike_refusal(seen);
+        let seen = Sheet::seen(sheet);
+        let refusal = strike_refusal(seen, number);
         if refusal != 0 {
-            return self.refused(refusal);
+            return Entered::Refused(refusal);
         }
-        self.without_line(seen.held - 1)
+        let fewer = seen.held - 1;
+        without_line(sheet, fewer);
+        Entered::Holds(fewer)
     }
+}
 
-    // A strike from tape, with its word.
-    pub fn strike_from_tape(self, word: u32) -> Turn
-        ensures { λ r. ⌜ r ≡ turnOf self (strikesFromTape word) ⌝ }
-    {
-        let seen = self.seen();
-        let refusal = strike_word_refusal(seen, word);
-        if refusal != 0 {
-            return self.refused(refusal);
-        }
-        self.without_line(seen.held - 1)
-    }
-
-    // The sheet without the equation at a place: those behind it close up.
-    fn without_line(self, place: usize) -> Turn
-        requires { ⌜ T (isOpened (ledgerOf self)) × (place < self .held) ⌝ }
-        ensures { λ r. ⌜ r ≡ record { sheet = recordBy self (loses place); entered = Entered.Holds (self .held - 1) } ⌝ }
-    {
-        let width = self.unknowns + 1;
-        let held = self.held;
-        let at = place * width;
-        let behind = at + width;
-        let filled = held * width;
-        let old = self.cells;
-        let mut cells = self.cells;
-        copy(&old[behind..filled], &mut cells[at..]);
-        let fewer = held - 1;
-        Turn {
-            sheet: Sheet {
-                modulus: self.modulus,
-                unknowns: self.unknowns,
-                held: fewer,
-                cells: cells,
-            },
-            entered: Entered::Holds(fewer),
-        }
-    }
+// The equation at a place goes: those behind it close up.
+fn without_line(sheet: &mut [u32], place: usize)
+    requires { ⌜ T (isOpened (ledgerOf (now sheet))) × (place < heldIn (now sheet)) ⌝ }
+    ensures { λ _. ⌜ now (sheet .exit) ≡ recordBy (now (sheet .entry)) (loses place) ⌝ }
+{
+    let held = sheet[HELD_AT];
+    let width = wide(sheet[UNKNOWNS_AT]) + 1;
+    let filled = wide(held) * width;
+    let front = place * width;
+    let at = CELLS_AT + front;
+    move_up(&mut sheet[at..], width, filled - front - width);
+    sheet[HELD_AT] = held - 1;
 }

@@ -5,26 +5,29 @@ ghost use Rattle.ledger.specs.Ledger.{isOpened, mostEquations, mostUnknowns};
 ghost use Rattle.asking.specs.Sees.{Sees};
 ghost use Rattle.sheet.specs.Record.{ledgerOf};
 ghost use Rattle.sheet.specs.View.{Views};
+use crate::CELLS_AT;
+use crate::HELD_AT;
+use crate::MODULUS_AT;
 use crate::Sheet;
+use crate::UNKNOWNS_AT;
+use crate::wide;
 use asking::Seen;
 use asking::are_unknowns;
 use questions::is_modulus;
-use system::limits::CELLS;
 use system::residues::all_below;
 
-// What the questions see, and the equations: the first len of the lines, each n coefficients and a right side.
+// What the questions see, and the place behind the equations, which lie from the first cell on, each n coefficients and a right side.
 pub struct View {
     pub seen: Seen,
-    pub len: usize,
-    pub lines: [u32; CELLS],
+    pub end: usize,
 }
 
 impl Sheet {
-    pub fn seen(self) -> Seen
-        ensures { λ r. ⌜ Sees (ledgerOf self) r ⌝ }
+    pub fn seen(sheet: &[u32; Sheet::SIZE]) -> Seen
+        ensures { λ r. ⌜ Sees (ledgerOf (now (sheet .entry))) r ⌝ }
         ensures { λ r. ⌜ (r .unknowns ≤ mostUnknowns) × (r .held ≤ mostEquations) ⌝ }
     {
-        if !self.is_opened() {
+        if !Sheet::is_opened(sheet) {
             return Seen {
                 opened: false,
                 modulus: 0,
@@ -34,33 +37,31 @@ impl Sheet {
         }
         Seen {
             opened: true,
-            modulus: self.modulus,
-            unknowns: self.unknowns,
-            held: self.held,
+            modulus: sheet[MODULUS_AT],
+            unknowns: wide(sheet[UNKNOWNS_AT]),
+            held: wide(sheet[HELD_AT]),
         }
     }
 
-    pub fn view(self) -> View
-        ensures { λ r. ⌜ Views (ledgerOf self) r ⌝ }
+    pub fn view(sheet: &[u32; Sheet::SIZE]) -> View
+        ensures { λ r. ⌜ Views (now (sheet .entry)) r ⌝ }
         ensures { λ r. ⌜ r .seen .unknowns ≤ mostUnknowns ⌝ }
     {
-        let seen = self.seen();
-        let len = seen.held * (seen.unknowns + 1);
-        let lines = self.cells;
+        let seen = Sheet::seen(sheet);
+        let end = CELLS_AT + seen.held * (seen.unknowns + 1);
         View {
             seen: seen,
-            len: len,
-            lines: lines,
+            end: end,
         }
     }
 
     // Whether the numbers that count are such as calls put there.
-    fn is_opened(self) -> bool
-        ensures { λ r. ⌜ r ≡ isOpened (ledgerOf self) ⌝ }
+    fn is_opened(sheet: &[u32; Sheet::SIZE]) -> bool
+        ensures { λ r. ⌜ r ≡ isOpened (ledgerOf (now (sheet .entry))) ⌝ }
     {
-        let m = self.modulus;
-        let n = self.unknowns;
-        let held = self.held;
+        let m = sheet[MODULUS_AT];
+        let n = wide(sheet[UNKNOWNS_AT]);
+        let held = wide(sheet[HELD_AT]);
         if !is_modulus(m) {
             return false;
         }
@@ -70,8 +71,8 @@ impl Sheet {
         if held > Sheet::EQUATIONS {
             return false;
         }
-        let cells = self.cells;
-        let filled = held * (n + 1);
-        all_below(m, &cells[..filled])
+        let end = CELLS_AT + held * (n + 1);
+        let numbers = &sheet[..];
+        all_below(m, &numbers[CELLS_AT..end])
     }
 }

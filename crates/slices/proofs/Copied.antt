@@ -3,13 +3,14 @@
 --   copied-none  before the first turn
 --   copied-more  a turn
 --   copied-all   after the last
+--   moving-length, moving-next   so it is where xs lies in the lent list itself, further back: what is read is not written yet
 use mathlib.Core.Path.{_≡_, refl, sym, ap, ap₂, _∙_}
 use mathlib.Core.List.{List, _++_}
 use Prim.Native.Nat.{ℕ, suc, _+_, _<_, _≤_}
 use native.Mathlib.Numerals.{add-one}
 use native.Mathlib.Omega.{arith}
-use lib.ListN.{length, take, drop, getD, set, length-set}
-use lib.Seq.{take-length, take-suc, drop-cons, set-at, append-snoc, length-take-le}
+use lib.ListN.{length, take, drop, getD, set, length-set, length-drop}
+use lib.Seq.{take-length, take-suc, drop-cons, set-at, append-snoc, length-take-le, getD-take, getD-drop, getD-append-add}
 use Rattle.slices.specs.Over.{over}
 
 module _ {A : Type 0} where
@@ -37,3 +38,21 @@ module _ {A : Type 0} where
   pub copied-all : (i : ℕ) (xs old : List A) {new : List A} → Copied i xs old new → i ≡ length xs → new ≡ over xs old
   copied-all i xs old (_, _, is) h =
       is ∙ ap (λ (k : ℕ). take k xs ++ drop k old) h ∙ ap (λ (l : List A). l ++ drop (length xs) old) (take-length xs)
+
+  module _ (by count : ℕ) (old : List A) (fits : by + count ≤ length old) where
+    pub moving-length : length (take count (drop by old)) ≡ count
+    moving-length = length-take-le count (drop by old) (omega (arith, length-drop by old))
+
+    -- behind the i elements that are written, the list is as it was
+    pub moving-next : (i : ℕ) {new : List A} (z : A) → Copied i (take count (drop by old)) old new → i < count
+        → getD new (by + i) z ≡ getD (take count (drop by old)) i z
+    moving-next i {new} z (_, _, is) h =
+        let front = take i (take count (drop by old)) in
+        let long : length front ≡ i = length-take-le i (take count (drop by old)) (omega (arith, moving-length)) in
+        let place : by + i ≡ length front + by = omega (arith, long) in
+        let same : i + by ≡ by + i = omega arith in
+        ap₂ (λ (l : List A) (k : ℕ). getD l k z) is place
+        ∙ getD-append-add front (drop i old) by z
+        ∙ getD-drop i old by z
+        ∙ ap (λ (k : ℕ). getD old k z) same
+        ∙ sym (getD-take count (drop by old) i z h ∙ getD-drop by old i z)

@@ -16,9 +16,8 @@ use Rattle.ledger.specs.Ledger.{Ledger, isOpened, modulusOf, unknownsOf, equati
 use Rattle.ledger.specs.Calls.{answersFromTape, queries}
 use Rattle.ledger.specs.Questions.{refusalOf}
 use Rattle.ledger.proofs.Questions.{accepted-yes}
-use Rattle.sheet.specs.declared.Sheet.{Sheet}
 use Rattle.sheet.specs.declared.answering.Shown.{Shown}
-use Rattle.sheet.specs.Record.{ledgerOf}
+use Rattle.sheet.specs.Record.{Sheet, ledgerOf}
 use Rattle.sheet.specs.Calls.{shownOf}
 use Rattle.sheet.proofs.Answers.{shown-refusal}
 use Rattle.sheet.proofs.Solved.{Small, reads-small, solved-block, solved-whole, solved-head, shown-block}

@@ -10,8 +10,8 @@ use borrow.Author.Tests.{leb-true, leb-false}
 use lib.Dec.{leb}
 use lib.ListN.{length, drop, length-drop}
 use Rattle.equations.proofs.Truth.{true-or-false}
-use Rattle.sheet.specs.declared.Sheet.{Sheet}
-use Rattle.sheet.specs.Record.{ledgerOf, fresh}
+use Rattle.sheet.specs.Record.{Sheet, ledgerOf, fresh}
+use Rattle.sheet.specs.History.{left}
 use Rattle.tape.specs.Output.{leftOverLine}
 use Rattle.tape.specs.Reader.{linesOn, firstOn, stepOf}
 use Rattle.tape.specs.Printing.{Prints, ends, calls, PrintsOnce, PrintsLines}
@@ -22,11 +22,11 @@ some-pieces : (f : ℕ) (s : Sheet) (rest : List ℕ) → length rest ≤ f → 
 unfolding stepOf
 some-pieces zero s rest few = (leftOverLine rest ∷ [], ends {rest = rest} (omega arith))
 some-pieces (suc f) s rest few =
-    go (true-or-false (leb 4 (length rest))) (some-pieces f (stepOf s rest .sheet) (drop (stepOf s rest .used) rest))
+    go (true-or-false (leb 4 (length rest))) (some-pieces f (left s (firstOn s rest)) (drop (stepOf s rest .used) rest))
   where
     go : (leb 4 (length rest) ≡ true) ⊎ (leb 4 (length rest) ≡ false)
         → (length (drop (stepOf s rest .used) rest) ≤ f
-        → (pieces : List (List ℕ)) × Prints (stepOf s rest .sheet) (drop (stepOf s rest .used) rest) pieces)
+        → (pieces : List (List ℕ)) × Prints (left s (firstOn s rest)) (drop (stepOf s rest .used) rest) pieces)
         → (pieces : List (List ℕ)) × Prints s rest pieces
     go (inl whole) next =
         let long : 4 ≤ length rest = leb-true 4 (length rest) whole in
@@ -41,7 +41,7 @@ no-others s rest pieces others (ends short) (calls whole prints) = absurd (omega
 no-others s rest pieces others (calls whole prints) (ends short) = absurd (omega arith)
 no-others s rest pieces others (calls {pieces = more} whole prints) (calls {pieces = more′} whole′ prints′) =
     ap (λ (z : List (List ℕ)). linesOn s (firstOn s rest) ∷ z)
-    (no-others (stepOf s rest .sheet) (drop (stepOf s rest .used) rest) more more′ prints prints′)
+    (no-others (left s (firstOn s rest)) (drop (stepOf s rest .used) rest) more more′ prints prints′)
 
 pub prints-once : PrintsOnce
 prints-once tape = (some-pieces (length tape) fresh tape (le-refl _), no-others fresh tape)
@@ -50,7 +50,7 @@ joined : (s : Sheet) (rest : List ℕ) (pieces : List (List ℕ)) → Prints s r
 unfolding stepOf flatten
 joined s rest pieces (ends short) = append-nil (leftOverLine rest) ∙ sym (remaining-end (ledgerOf s) rest short)
 joined s rest pieces (calls {pieces = more} whole prints) =
-    ap (λ (z : List ℕ). linesOn s (firstOn s rest) ++ z) (joined (stepOf s rest .sheet) (drop (stepOf s rest .used) rest) more prints)
+    ap (λ (z : List ℕ). linesOn s (firstOn s rest) ++ z) (joined (left s (firstOn s rest)) (drop (stepOf s rest .used) rest) more prints)
     ∙ sym (remaining-step s rest whole)
 
 pub prints-lines : PrintsLines

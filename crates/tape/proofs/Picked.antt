@@ -1,10 +1,10 @@
 -- The call that is picked, and the call that is read from the rest of a tape.
 --   picks-few, picks-none  the kinds that have no meaning pick nothing
---   picked-told            what is told of one call is told of the call that is picked
+--   picked-told, picked-call   what is told of one call is told of the call that is picked
 --   next-picks, next-wants what the first word picks, and how many words that takes
 --   next-call, next-used   the call read, and the bytes of its words
 --   stepped                the reader's step, put together
-use mathlib.Core.Path.{_≡_, sym, ap, _∙_}
+use mathlib.Core.Path.{_≡_, sym, ap, subst, _∙_}
 use mathlib.Core.Logic.{_⊎_, ⊎-elim}
 use mathlib.Core.List.{List}
 use Prim.Native.Nat.{ℕ, _*_, _/_, _≤_, min}
@@ -15,16 +15,15 @@ use Rattle.words.specs.declared.unpacking.Word.{Word}
 use Rattle.words.specs.Words.{wordOf}
 use Rattle.ledger.specs.Ledger.{Ledger, unknownsOf}
 use Rattle.ledger.specs.Calls.{Call}
-use Rattle.sheet.specs.declared.Sheet.{Sheet}
-use Rattle.sheet.specs.Record.{ledgerOf}
-use Rattle.tape.specs.declared.printing.Told.{Told}
+use Rattle.sheet.specs.Record.{Sheet, ledgerOf}
+use Rattle.sheet.specs.History.{left}
 use Rattle.tape.specs.declared.calling.Step.{Step}
 use Rattle.tape.specs.declared.picking.Pick.{Pick}
 use Rattle.tape.specs.declared.picking.Pick.the-variants.{Nothing}
 use Rattle.tape.specs.Bytes.{wordAt, wordsWithin, wordsOn}
 use Rattle.tape.specs.FirstCall.{pickOf, wantedBy, wanted, callBy, firstCall}
 use Rattle.tape.specs.Reader.{linesOn, firstOn, takenFrom, stepOf}
-use Rattle.tape.specs.Model.Handed.{toldOf}
+use Rattle.tape.specs.Model.Handed.{Tells}
 use Rattle.tape.proofs.OnTape.{words-length, words-first, words-taken}
 
 pub picks-few : (k : ℕ) → (k ≡ 0) ⊎ ((k ≡ 2) ⊎ (k ≡ 4)) → Nothing ≡ pickOf k
@@ -34,9 +33,12 @@ pub picks-none : (k : ℕ) → (k ≡ 1 → ⊥) → (k ≡ 3 → ⊥) → (k �
 picks-none k not-1 not-3 not-5 not-8 not-9 =
     rw (ne-eqb k 1 not-1, ne-eqb k 3 not-3, ne-eqb k 5 not-5, ne-eqb k 8 not-8, ne-eqb k 9 not-9)
 
-pub picked-told : (s : Sheet) {c d : Call} (old : List ℕ) {r : Told} {new : List ℕ} → c ≡ d → r ≡ toldOf s c
-    → new ≡ over (linesOn s c) old → (r ≡ toldOf s d) × (new ≡ over (linesOn s d) old)
-picked-told s old same told front = (told ∙ ap (toldOf s) same, front ∙ ap (λ (e : Call). over (linesOn s e) old) same)
+pub picked-told : (s : Sheet) {c d : Call} {after : Sheet} {old new : List ℕ} {k : ℕ} → c ≡ d → Tells s c after old new k
+    → Tells s d after old new k
+picked-told s {after = after} {old} {new} {k} = subst (λ (e : Call). Tells s e after old new k)
+
+pub picked-call : (first : ℕ) (taken : List ℕ) {p q : Pick} → q ≡ p → callBy p first taken ≡ callBy q first taken
+picked-call first taken is = ap (λ (p : Pick). callBy p first taken) (sym is)
 
 -- ---- the first call on the rest of a tape
 
@@ -75,10 +77,10 @@ module _ (l : Ledger) (rest : List ℕ) (whole : 4 ≤ length rest) (first want 
       (few ∙ ap (λ (k : ℕ). min k (length rest / 4)) want-is ∙ ap (min (wanted l head)) (sym (words-length rest))
       ∙ sym (length-take (wanted l head) (wordsOn rest)))
 
-pub stepped : (s : Sheet) (rest old : List ℕ) {c : Call} {told : Told} {used : ℕ} {new : List ℕ}
-    → c ≡ firstOn s rest → used ≡ 4 * length (takenFrom (ledgerOf s) (wordsOn rest)) → told ≡ toldOf s c
-    → new ≡ over (linesOn s c) old
-    → (_≡_ {A = Step} (record { sheet = told .sheet; used = used; written = told .written }) (stepOf s rest))
-    × (new ≡ over (linesOn s (firstOn s rest)) old)
-unfolding stepOf toldOf
-stepped s rest old call bytes is front = (rw (is, call, bytes), front ∙ ap (λ (e : Call). over (linesOn s e) old) call)
+pub stepped : (s : Sheet) (rest : List ℕ) {c : Call} {after : Sheet} {used k : ℕ} {old new : List ℕ}
+    → c ≡ firstOn s rest → used ≡ 4 * length (takenFrom (ledgerOf s) (wordsOn rest)) → Tells s c after old new k
+    → (_≡_ {A = Step} (record { used = used; written = k }) (stepOf s rest))
+    × ((after ≡ left s (firstOn s rest)) × (new ≡ over (linesOn s (firstOn s rest)) old))
+unfolding stepOf
+stepped s rest call bytes told =
+    let t = picked-told s call told in (rw (bytes, t .count), (t .sheet, t .lines))

@@ -13,8 +13,7 @@ use lib.ListN.{length, take, drop, getD, length-take, length-drop}
 use Rattle.ledger.specs.Ledger.{Ledger, unopened}
 use Rattle.ledger.specs.Calls.{Call}
 use Rattle.ledger.specs.History.{enter, ledgerFrom}
-use Rattle.sheet.specs.declared.Sheet.{Sheet}
-use Rattle.sheet.specs.Record.{fresh, ledgerOf}
+use Rattle.sheet.specs.Record.{Sheet, fresh, ledgerOf}
 use Rattle.sheet.specs.History.{left, sheetFrom}
 use Rattle.sheet.proofs.History.{left-reads, after-reads}
 use Rattle.tape.specs.Bytes.{wordsOn}

@@ -13,8 +13,7 @@ use lib.ListN.{length, drop, length-append}
 use Rattle.slices.specs.Over.{over}
 use Rattle.slices.proofs.Parts.{lent, lent-is}
 use Rattle.slices.proofs.Over.{over-fits}
-use Rattle.sheet.specs.declared.Sheet.{Sheet}
-use Rattle.sheet.specs.Record.{ledgerOf}
+use Rattle.sheet.specs.Record.{Sheet, ledgerOf}
 use Rattle.sheet.specs.History.{left}
 use Rattle.tape.specs.declared.calling.Step.{Step}
 use Rattle.tape.specs.Output.{refusedLine, leftOverLine}
@@ -25,10 +24,6 @@ module _ (s : Sheet) (rest : List ℕ) {step : Step} (whole : 4 ≤ length rest)
   used-is : step .used ≡ usedBy (ledgerOf s) rest
   unfolding stepOf
   used-is = ap (λ (t : Step). t .used) is
-
-  left-is : step .sheet ≡ left s (firstOn s rest)
-  unfolding stepOf
-  left-is = ap (λ (t : Step). t .sheet) is
 
   pub step-bytes : (4 ≤ step .used) × (step .used ≤ length rest)
   step-bytes = (
@@ -43,19 +38,20 @@ module _ (s : Sheet) (rest : List ℕ) {step : Step} (whole : 4 ≤ length rest)
   pub step-fits : (old : List ℕ) {new : List ℕ} → new ≡ over (linesOn s (firstOn s rest)) old → step .written ≤ length new
   step-fits old front = omega (arith, step-written, over-fits (linesOn s (firstOn s rest)) old front)
 
-  abbrev pub behind : List ℕ
-  behind = remaining (ledgerOf (step .sheet)) (lent (step .used) rest)
+  module _ {after : Sheet} (left-is : after ≡ left s (firstOn s rest)) where
+    abbrev pub behind : List ℕ
+    behind = remaining (ledgerOf after) (lent (step .used) rest)
 
-  pub step-remaining : remaining (ledgerOf s) rest ≡ linesOn s (firstOn s rest) ++ behind
-  step-remaining =
-      remaining-step s rest whole
-      ∙ ap (λ (z : List ℕ). linesOn s (firstOn s rest) ++ z)
-      (ap₂ (λ (t : Sheet) (z : List ℕ). remaining (ledgerOf t) z) (sym left-is)
-      (ap (λ (k : ℕ). drop k rest) (sym used-is) ∙ sym (lent-is (step .used) rest)))
+    pub step-remaining : remaining (ledgerOf s) rest ≡ linesOn s (firstOn s rest) ++ behind
+    step-remaining =
+        remaining-step s rest whole
+        ∙ ap (λ (z : List ℕ). linesOn s (firstOn s rest) ++ z)
+        (ap₂ (λ (t : Sheet) (z : List ℕ). remaining (ledgerOf t) z) (sym left-is)
+        (ap (λ (k : ℕ). drop k rest) (sym used-is) ∙ sym (lent-is (step .used) rest)))
 
-  pub step-counts : step .written + length behind ≡ length (remaining (ledgerOf s) rest)
-  step-counts =
-      omega (arith, step-written, ap length step-remaining, length-append (linesOn s (firstOn s rest)) behind)
+    pub step-counts : step .written + length behind ≡ length (remaining (ledgerOf s) rest)
+    step-counts =
+        omega (arith, step-written, ap length step-remaining, length-append (linesOn s (firstOn s rest)) behind)
 
 -- ---- the bytes left over
 

@@ -1,6 +1,5 @@
 -- What a call prints, from what it says.
 --   entered-told      the line of what an add or a strike says is the line of the call
---   held-few          and the equations that it says are held are at most 16
 --   said-holds        a call that says how many are held is accepted
 --   said-refused      one that says a refusal prints it
 --   accepted-told     an accepted call prints its own lines
@@ -11,14 +10,14 @@
 use mathlib.Core.Path.{_≡_, refl, sym, ap, ap₂, _∙_}
 use mathlib.Core.Bool.{Bool, true, false, cond}
 use mathlib.Core.List.{List, [], _∷_}
-use Prim.Native.Nat.{ℕ, _≤_}
+use Prim.Native.Nat.{ℕ}
 use native.Mathlib.Omega.{arith}
 use borrow.Author.Tests.{eqb-true}
 use lib.Dec.{eqb}
 use lib.ListN.{length}
 use Rattle.slices.specs.Over.{over}
 use Rattle.equations.specs.declared.Mark.{Mark}
-use Rattle.ledger.specs.Ledger.{Ledger, modulusOf, unknownsOf, equationsIn, mostEquations}
+use Rattle.ledger.specs.Ledger.{Ledger, modulusOf, unknownsOf, equationsIn}
 use Rattle.ledger.specs.Marking.{claimMark}
 use Rattle.ledger.specs.Calls.{Call, Entry, opens, marks, meaningless, enters, queries}
 use Rattle.ledger.specs.Questions.{refusalOf}
@@ -26,57 +25,42 @@ use Rattle.ledger.specs.History.{enter}
 use Rattle.ledger.proofs.Effects.{enter-accepted}
 use Rattle.asking.specs.declared.Seen.{Seen}
 use Rattle.asking.specs.Sees.{Sees}
-use Rattle.sheet.specs.declared.Sheet.{Sheet}
-use Rattle.sheet.specs.declared.Turn.{Turn}
+use Rattle.sheet.specs.declared.Entered.{Entered}
 use Rattle.sheet.specs.declared.Entered.the-variants.{Holds}
 use Rattle.sheet.specs.declared.Entered.the-variants.{Refused as Entered·Refused}
 use Rattle.sheet.specs.declared.marking.Marked.{Marked}
 use Rattle.sheet.specs.declared.marking.Marked.the-variants.{Gets}
 use Rattle.sheet.specs.declared.marking.Marked.the-variants.{Refused as Marked·Refused}
-use Rattle.sheet.specs.Record.{ledgerOf}
-use Rattle.sheet.specs.Calls.{enteredOf, turnOf, markedOf}
+use Rattle.sheet.specs.Record.{Sheet, ledgerOf}
+use Rattle.sheet.specs.Calls.{enteredOf, markedOf}
 use Rattle.sheet.specs.History.{left}
-use Rattle.sheet.proofs.Few.{equations-few}
 use Rattle.sheet.proofs.History.{left-reads}
-use Rattle.tape.specs.declared.printing.Told.{Told}
 use Rattle.tape.specs.Text.{line, lineOf}
 use Rattle.tape.specs.Output.{refusedLine, markLine, acceptedLines, heldAfter, callLines}
 use Rattle.tape.specs.Reader.{linesOn}
-use Rattle.tape.specs.Model.Handed.{enteredLine, heldBy, markedLine, toldOf}
+use Rattle.tape.specs.Model.Handed.{enteredLine, markedLine, Tells}
 
 holds-or-refused : (name : List ℕ) (b : Bool) (k r : ℕ)
     → enteredLine name (cond b (Holds k) (Entered·Refused r)) ≡ cond b (lineOf name (k ∷ [])) (refusedLine r)
 holds-or-refused name true k r = refl
 holds-or-refused name false k r = refl
 
-held-or-none : (b : Bool) (k r : ℕ) → heldBy (cond b (Holds k) (Entered·Refused r)) ≤ k
-held-or-none true k r = omega arith
-held-or-none false k r = omega arith
-
 gets-or-refused : (b : Bool) (mark : Mark) (r : ℕ)
     → markedLine (cond b (Gets mark) (Marked·Refused r)) ≡ cond b (markLine mark) (refusedLine r)
 gets-or-refused true mark r = refl
 gets-or-refused false mark r = refl
 
-module _ (s : Sheet) (e : Entry) {turn : Turn} (is : turn ≡ turnOf s e) where
+module _ (s : Sheet) (e : Entry) {entered : Entered} (is : entered ≡ enteredOf (ledgerOf s) e) where
   pub entered-told : (name : List ℕ) → acceptedLines (ledgerOf s) (enters e) ≡ lineOf name (heldAfter (ledgerOf s) e)
-      → enteredLine name (turn .entered) ≡ linesOn s (enters e)
-  unfolding turnOf enteredOf callLines
+      → enteredLine name entered ≡ linesOn s (enters e)
+  unfolding enteredOf callLines
   entered-told name accepted =
       rw (is, accepted) (holds-or-refused name (eqb (refusalOf (ledgerOf s) (enters e)) 0) _ (refusalOf (ledgerOf s) (enters e)))
 
-  pub held-few : heldBy (turn .entered) ≤ mostEquations
-  unfolding turnOf enteredOf
-  held-few =
-      let few = equations-few (left s (enters e)) in
-      let same = ap (λ (l : Ledger). length (equationsIn l)) (left-reads s (enters e)) in
-      let said = held-or-none (eqb (refusalOf (ledgerOf s) (enters e)) 0) (length (equationsIn (enter (ledgerOf s) (enters e)))) (refusalOf (ledgerOf s) (enters e)) in
-      rw is (omega arith)
-
   -- by what it says, an accepted call is told from a refused one
-  pub said-holds : {k : ℕ} → turn .entered ≡ Holds k → refusalOf (ledgerOf s) (enters e) ≡ 0
-  unfolding turnOf enteredOf
-  said-holds {k} said = go (eqb (refusalOf (ledgerOf s) (enters e)) 0) refl (sym (ap (λ (t : Turn). t .entered) is) ∙ said)
+  pub said-holds : {k : ℕ} → entered ≡ Holds k → refusalOf (ledgerOf s) (enters e) ≡ 0
+  unfolding enteredOf
+  said-holds {k} said = go (eqb (refusalOf (ledgerOf s) (enters e)) 0) refl (sym is ∙ said)
     where
       go : (b : Bool) → eqb (refusalOf (ledgerOf s) (enters e)) 0 ≡ b
           → cond b (Holds (length (equationsIn (enter (ledgerOf s) (enters e))))) (Entered·Refused (refusalOf (ledgerOf s) (enters e))) ≡ Holds k
@@ -84,9 +68,9 @@ module _ (s : Sheet) (e : Entry) {turn : Turn} (is : turn ≡ turnOf s e) where
       go true is-0 h = eqb-true (refusalOf (ledgerOf s) (enters e)) 0 is-0
       go false is-0 h = let z : _≡_ {A = ℕ} 0 1 = cc in absurd (omega arith)
 
-  pub said-refused : {r : ℕ} → turn .entered ≡ Entered·Refused r → refusedLine r ≡ linesOn s (enters e)
-  unfolding turnOf enteredOf callLines
-  said-refused {r} said = go (eqb (refusalOf (ledgerOf s) (enters e)) 0) (sym (ap (λ (t : Turn). t .entered) is) ∙ said)
+  pub said-refused : {r : ℕ} → entered ≡ Entered·Refused r → refusedLine r ≡ linesOn s (enters e)
+  unfolding enteredOf callLines
+  said-refused {r} said = go (eqb (refusalOf (ledgerOf s) (enters e)) 0) (sym is ∙ said)
     where
       go : (b : Bool)
           → cond b (Holds (length (equationsIn (enter (ledgerOf s) (enters e))))) (Entered·Refused (refusalOf (ledgerOf s) (enters e)))
@@ -119,11 +103,7 @@ pub meaningless-told : (s : Sheet) (w : ℕ) → refusedLine 1 ≡ linesOn s (qu
 unfolding callLines refusalOf
 meaningless-told s w = refl
 
-abbrev pub telling : Sheet → ℕ → Told
-telling s k = record { sheet = s; written = k }
-
 pub told : (s : Sheet) (c : Call) (old : List ℕ) {after : Sheet} {lines new : List ℕ} {k : ℕ} → after ≡ left s c
-    → lines ≡ linesOn s c → k ≡ length lines → new ≡ over lines old
-    → (telling after k ≡ toldOf s c) × (new ≡ over (linesOn s c) old)
-unfolding toldOf
-told s c old same is count front = (rw (same, count, is), front ∙ ap (λ (z : List ℕ). over z old) is)
+    → lines ≡ linesOn s c → k ≡ length lines → new ≡ over lines old → Tells s c after old new k
+told s c old same is count front =
+    record { sheet = same; count = count ∙ ap length is; lines = front ∙ ap (λ (z : List ℕ). over z old) is }

@@ -15,8 +15,8 @@ use lib.ListN.{length, take, length-append, length-take}
 use Rattle.slices.specs.Over.{over}
 use Rattle.slices.proofs.Parts.{lent, putBack, lent-length}
 use Rattle.slices.proofs.Over.{over-front, over-behind}
-use Rattle.sheet.specs.declared.Sheet.{Sheet}
-use Rattle.sheet.specs.Record.{fresh, ledgerOf}
+use Rattle.sheet.specs.Record.{Sheet, fresh, ledgerOf}
+use Rattle.sheet.specs.History.{left}
 use Rattle.tape.specs.declared.calling.Step.{Step}
 use Rattle.tape.specs.Output.{leftOverLine, mostBytes, lines}
 use Rattle.tape.specs.Reader.{linesOn, firstOn, stepOf}
@@ -47,14 +47,14 @@ module _ {tape old new : List ℕ} {s : Sheet} {rest : List ℕ} {k : ℕ} (w : 
   written-room : k + length (remaining (ledgerOf s) rest) ≡ length (lines tape)
   written-room = omega (arith, w .count, ap length (w .whole), length-append (w .done) (remaining (ledgerOf s) rest))
 
-  pub written-more : {step : Step} {part : List ℕ} → 4 ≤ length rest → step ≡ stepOf s rest
-      → part ≡ over (linesOn s (firstOn s rest)) (lent k new)
-      → Written tape old (putBack k new part) (step .sheet) (lent (step .used) rest) (k + step .written)
-  written-more {step} {part} whole is copy =
+  pub written-more : {step : Step} {after : Sheet} {part : List ℕ} → 4 ≤ length rest → step ≡ stepOf s rest
+      → after ≡ left s (firstOn s rest) → part ≡ over (linesOn s (firstOn s rest)) (lent k new)
+      → Written tape old (putBack k new part) after (lent (step .used) rest) (k + step .written)
+  written-more whole is next copy =
       let piece = linesOn s (firstOn s rest) in
       record {
         done = w .done ++ piece;
-        whole = w .whole ∙ ap (λ (z : List ℕ). w .done ++ z) (step-remaining s rest whole is) ∙ sym (append-assoc (w .done) piece _);
+        whole = w .whole ∙ ap (λ (z : List ℕ). w .done ++ z) (step-remaining s rest whole is next) ∙ sym (append-assoc (w .done) piece _);
         count = omega (arith, w .count, step-written s rest whole is, length-append (w .done) piece);
         front = over-behind k (w .done) piece old (sym (w .count)) (w .front) copy;
       }
@@ -70,7 +70,7 @@ module _ {tape old new : List ℕ} {s : Sheet} {rest : List ℕ} {k : ℕ} (w : 
     room-behind = omega (arith, written-room)
 
     pub room-step : {step : Step} → 4 ≤ length rest → step ≡ stepOf s rest → k + step .written ≤ length new
-    room-step whole is = omega (arith, written-room, step-counts s rest whole is)
+    room-step whole is = omega (arith, written-room, step-counts s rest whole is refl)
 
     pub room-last : length rest < 4 → k + length (leftOverLine rest) ≤ length new
     room-last short = omega (arith, written-room, ap length (remaining-end (ledgerOf s) rest short))

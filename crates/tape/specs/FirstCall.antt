@@ -8,7 +8,7 @@ use lib.ListN.{take, drop, getD}
 use Rattle.words.specs.Words.{wordOf, modulusKind, coefficientKind, headKind, strikeKind, answerKind}
 use Rattle.ledger.specs.Ledger.{Ledger, unknownsOf}
 use Rattle.ledger.specs.Shapes.{claimLength}
-use Rattle.ledger.specs.Calls.{opens, adds, strikesFromTape, answersFromTape, marks, meaningless, Call, enters, queries}
+use Rattle.ledger.specs.Calls.{opens, adds, strikes, answersFromTape, marks, meaningless, Call, enters, queries}
 use Rattle.tape.specs.declared.picking.Pick.{Pick}
 use Rattle.tape.specs.declared.picking.Pick.the-variants.{Opening, Adding, Marking, Striking, Answering, Nothing}
 
@@ -39,7 +39,7 @@ abbrev pub callBy : Pick → ℕ → List ℕ → Call
 callBy Opening w ws = enters (opens ws)
 callBy Adding w ws = enters (adds ws)
 callBy Marking w ws = queries (marks ws)
-callBy Striking w ws = enters (strikesFromTape w)
+callBy Striking w ws = enters (strikes (wordOf w .number))
 callBy Answering w ws = queries (answersFromTape w)
 callBy Nothing w ws = queries (meaningless w)
 

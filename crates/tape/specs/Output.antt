@@ -13,7 +13,7 @@ use Rattle.system.specs.Claims.{vectorsWithin}
 use Rattle.ledger.specs.Ledger.{Ledger, unopened, modulusOf, unknownsOf, equationsIn}
 use Rattle.ledger.specs.Shapes.{numberAt}
 use Rattle.ledger.specs.Marking.{claimMark}
-use Rattle.ledger.specs.Calls.{Entry, opens, adds, strikes, strikesFromTape, answers, answersFromTape, marks, meaningless}
+use Rattle.ledger.specs.Calls.{Entry, opens, adds, strikes, answers, answersFromTape, marks, meaningless}
 use Rattle.ledger.specs.Calls.{Call, enters, queries}
 use Rattle.ledger.specs.Questions.{refusalOf}
 use Rattle.ledger.specs.History.{enter}
@@ -52,8 +52,7 @@ markLine Fail = line "fail" []
 abbrev pub acceptedLines : Ledger → Call → List ℕ
 acceptedLines l (enters (opens ws)) = line "open" (numberAt (wordsIn ws) 0 ∷ numberAt (wordsIn ws) 1 ∷ [])
 acceptedLines l (enters (adds ws)) = line "added" (heldAfter l (adds ws))
-acceptedLines l (enters strikes) = line "struck" (heldAfter l strikes)
-acceptedLines l (enters (strikesFromTape w)) = line "struck" (heldAfter l (strikesFromTape w))
+acceptedLines l (enters (strikes number)) = line "struck" (heldAfter l (strikes number))
 acceptedLines l (queries (answers buffer)) = answerLines l
 acceptedLines l (queries (answersFromTape w)) = answerLines l
 acceptedLines l (queries (marks ws)) = markLine (claimMark l ws)

@@ -5,8 +5,8 @@ use mathlib.Core.Path.{_≡_}
 use mathlib.Core.List.{List, [], _∷_, flatten}
 use Prim.Native.Nat.{ℕ, _≤_, _<_}
 use lib.ListN.{length, drop}
-use Rattle.sheet.specs.declared.Sheet.{Sheet}
-use Rattle.sheet.specs.Record.{fresh}
+use Rattle.sheet.specs.Record.{Sheet, fresh}
+use Rattle.sheet.specs.History.{left}
 use Rattle.tape.specs.Output.{leftOverLine, mostBytes, lines}
 use Rattle.tape.specs.Reader.{linesOn, firstOn, stepOf}
 
@@ -16,7 +16,7 @@ pub data Prints : Sheet → List ℕ → List (List ℕ) → Type 0 where
   ends : {s : Sheet} {rest : List ℕ} → length rest < 4 → Prints s rest (leftOverLine rest ∷ [])
   -- a call is made and its lines are written
   calls : {s : Sheet} {rest : List ℕ} {pieces : List (List ℕ)} → 4 ≤ length rest
-      → Prints (stepOf s rest .sheet) (drop (stepOf s rest .used) rest) pieces
+      → Prints (left s (firstOn s rest)) (drop (stepOf s rest .used) rest) pieces
       → Prints s rest (linesOn s (firstOn s rest) ∷ pieces)
 
 -- Of every tape some pieces are written, however long it is, and no others.

@@ -1,13 +1,10 @@
--- What the reader of one call gives. The lines are said of the ledger that the sheet reads as; just the sheet afterwards names
--- the sheet, by the function that demand 3 is said of. Definitions only.
+-- What the reader of one call gives, said of the ledger that the sheet reads as. Definitions only.
 use mathlib.Core.List.{List}
 use Prim.Native.Nat.{ℕ, _*_}
 use lib.ListN.{length, take, getD}
 use Rattle.ledger.specs.Ledger.{Ledger}
 use Rattle.ledger.specs.Calls.{Call}
-use Rattle.sheet.specs.declared.Sheet.{Sheet}
-use Rattle.sheet.specs.Record.{ledgerOf}
-use Rattle.sheet.specs.History.{left}
+use Rattle.sheet.specs.Record.{Sheet, ledgerOf}
 use Rattle.tape.specs.declared.calling.Step.{Step}
 use Rattle.tape.specs.Bytes.{wordsOn}
 use Rattle.tape.specs.FirstCall.{wanted, firstCall}
@@ -29,11 +26,10 @@ firstOn s rest = firstCall (ledgerOf s) (wordsOn rest)
 abbrev pub takenFrom : Ledger → List ℕ → List ℕ
 takenFrom l ws = take (wanted l (getD ws 0 0)) ws
 
--- the reader's step: that call told, and the bytes of its words
+-- the reader's step: the bytes of that call's words, and of its lines
 unfoldable pub stepOf : Sheet → List ℕ → Step
 stepOf s rest =
     record {
-      sheet = left s (firstOn s rest);
       used = 4 * length (takenFrom (ledgerOf s) (wordsOn rest));
       written = length (linesOn s (firstOn s rest));
     }

@@ -3,12 +3,14 @@ ghost use mathlib.Core.Path.{_≡_};
 ghost use Prim.Native.Nat.{_≤_};
 ghost use lib.ListN.{length};
 ghost use Rattle.slices.specs.Over.{over};
+ghost use Rattle.words.specs.Words.{wordOf};
 ghost use Rattle.ledger.specs.Ledger.{mostEquations};
-ghost use Rattle.ledger.specs.Calls.{opens, adds, strikesFromTape, answersFromTape, marks, meaningless, enters, queries};
+ghost use Rattle.ledger.specs.Calls.{opens, adds, strikes, answersFromTape, marks, meaningless, enters, queries};
+ghost use Rattle.sheet.specs.View.{heldBy};
 ghost use Rattle.tape.specs.FirstCall.{callBy};
 ghost use Rattle.tape.specs.Output.{refusedLine, markLine};
-ghost use Rattle.tape.specs.Reader.{callRoom, linesOn};
-ghost use Rattle.tape.specs.Model.Handed.{enteredLine, heldBy, markedLine, toldOf};
+ghost use Rattle.tape.specs.Reader.{callRoom};
+ghost use Rattle.tape.specs.Model.Handed.{enteredLine, markedLine, Tells};
 use crate::answering::block_lines;
 use crate::picking::Pick;
 use crate::text::line;
@@ -16,12 +18,7 @@ use equations::Mark;
 use sheet::Entered;
 use sheet::Sheet;
 use sheet::marking::Marked;
-
-// The sheet that a call left, and how many bytes its lines are.
-pub struct Told {
-    pub sheet: Sheet,
-    pub written: usize,
-}
+use words::unpacking::unpack;
 
 pub(crate) fn refused(number: u32, out: &mut [u8]) -> usize
     requires { ⌜ callRoom ≤ length (now out) ⌝ }
@@ -70,119 +67,79 @@ fn mark_line(mark: Mark, out: &mut [u8]) -> usize
     }
 }
 
-fn open(sheet: Sheet, words: &[u32], out: &mut [u8]) -> Told
+fn open(sheet: &mut [u32; Sheet::SIZE], words: &[u32], out: &mut [u8]) -> usize
     requires { ⌜ callRoom ≤ length (now out) ⌝ }
-    ensures { λ r. ⌜ r ≡ toldOf sheet (enters (opens (now (words .entry)))) ⌝ }
-    ensures { λ _. ⌜ now (out .exit) ≡ over (linesOn sheet (enters (opens (now (words .entry))))) (now (out .entry)) ⌝ }
+    ensures { λ r. ⌜ Tells (now (sheet .entry)) (enters (opens (now (words .entry)))) (now (sheet .exit)) (now (out .entry)) (now (out .exit)) r ⌝ }
 {
-    let turn = sheet.open(words);
-    let entered = turn.entered;
-    let after = turn.sheet;
+    let entered = Sheet::open(sheet, words);
     match entered {
         Entered::Holds(_) => {
-            let seen = after.seen();
+            let seen = Sheet::seen(sheet);
             let numbers = [seen.modulus, seen.unknowns as u32];
-            let written = line(b"open", &numbers, out);
-            Told {
-                sheet: after,
-                written: written,
-            }
+            line(b"open", &numbers, out)
         }
-        Entered::Refused(r) => {
-            let written = refused(r, out);
-            Told {
-                sheet: after,
-                written: written,
-            }
-        }
+        Entered::Refused(number) => refused(number, out),
     }
 }
 
-fn add(sheet: Sheet, words: &[u32], out: &mut [u8]) -> Told
+fn add(sheet: &mut [u32; Sheet::SIZE], words: &[u32], out: &mut [u8]) -> usize
     requires { ⌜ callRoom ≤ length (now out) ⌝ }
-    ensures { λ r. ⌜ r ≡ toldOf sheet (enters (adds (now (words .entry)))) ⌝ }
-    ensures { λ _. ⌜ now (out .exit) ≡ over (linesOn sheet (enters (adds (now (words .entry))))) (now (out .entry)) ⌝ }
+    ensures { λ r. ⌜ Tells (now (sheet .entry)) (enters (adds (now (words .entry)))) (now (sheet .exit)) (now (out .entry)) (now (out .exit)) r ⌝ }
 {
-    let turn = sheet.add(words);
-    let entered = turn.entered;
-    let after = turn.sheet;
-    let written = entered_line(b"added", entered, out);
-    Told {
-        sheet: after,
-        written: written,
-    }
+    let entered = Sheet::add(sheet, words);
+    entered_line(b"added", entered, out)
 }
 
-fn strike(sheet: Sheet, word: u32, out: &mut [u8]) -> Told
+fn strike(sheet: &mut [u32; Sheet::SIZE], word: u32, out: &mut [u8]) -> usize
     requires { ⌜ callRoom ≤ length (now out) ⌝ }
-    ensures { λ r. ⌜ r ≡ toldOf sheet (enters (strikesFromTape word)) ⌝ }
-    ensures { λ _. ⌜ now (out .exit) ≡ over (linesOn sheet (enters (strikesFromTape word))) (now (out .entry)) ⌝ }
+    ensures { λ r. ⌜ Tells (now (sheet .entry)) (enters (strikes (wordOf word .number))) (now (sheet .exit)) (now (out .entry)) (now (out .exit)) r ⌝ }
 {
-    let turn = sheet.strike_from_tape(word);
-    let entered = turn.entered;
-    let after = turn.sheet;
-    let written = entered_line(b"struck", entered, out);
-    Told {
-        sheet: after,
-        written: written,
-    }
+    let struck = unpack(word);
+    let entered = Sheet::strike(sheet, struck.number);
+    entered_line(b"struck", entered, out)
 }
 
-fn answer(sheet: Sheet, word: u32, out: &mut [u8]) -> Told
+fn answer(sheet: &[u32; Sheet::SIZE], word: u32, out: &mut [u8]) -> usize
     requires { ⌜ callRoom ≤ length (now out) ⌝ }
-    ensures { λ r. ⌜ r ≡ toldOf sheet (queries (answersFromTape word)) ⌝ }
-    ensures { λ _. ⌜ now (out .exit) ≡ over (linesOn sheet (queries (answersFromTape word))) (now (out .entry)) ⌝ }
+    ensures { λ r. ⌜ Tells (now (sheet .entry)) (queries (answersFromTape word)) (now (sheet .entry)) (now (out .entry)) (now (out .exit)) r ⌝ }
 {
-    let seen = sheet.seen();
-    let shown = sheet.answer_from_tape(word);
+    let seen = Sheet::seen(sheet);
+    let shown = Sheet::answer_from_tape(sheet, word);
     if shown.refused != 0 {
-        let written = refused(shown.refused, out);
-        return Told {
-            sheet: sheet,
-            written: written,
-        };
+        return refused(shown.refused, out);
     }
     let block = shown.block;
     let len = block.len;
     let numbers = block.numbers;
-    let written = block_lines(block.head, &numbers[..len], seen.unknowns, out);
-    Told {
-        sheet: sheet,
-        written: written,
-    }
+    block_lines(block.head, &numbers[..len], seen.unknowns, out)
 }
 
-fn mark(sheet: Sheet, words: &[u32], out: &mut [u8]) -> Told
+fn mark(sheet: &[u32; Sheet::SIZE], words: &[u32], out: &mut [u8]) -> usize
     requires { ⌜ callRoom ≤ length (now out) ⌝ }
-    ensures { λ r. ⌜ r ≡ toldOf sheet (queries (marks (now (words .entry)))) ⌝ }
-    ensures { λ _. ⌜ now (out .exit) ≡ over (linesOn sheet (queries (marks (now (words .entry))))) (now (out .entry)) ⌝ }
+    ensures { λ r. ⌜ Tells (now (sheet .entry)) (queries (marks (now (words .entry)))) (now (sheet .entry)) (now (out .entry)) (now (out .exit)) r ⌝ }
 {
-    let marked = sheet.mark(words);
-    let written = marked_line(marked, out);
-    Told {
-        sheet: sheet,
-        written: written,
-    }
+    let marked = Sheet::mark(sheet, words);
+    marked_line(marked, out)
 }
 
 // A word that picks no call.
-fn meaningless(sheet: Sheet, word: u32, out: &mut [u8]) -> Told
+fn meaningless(sheet: &[u32; Sheet::SIZE], word: u32, out: &mut [u8]) -> usize
     requires { ⌜ callRoom ≤ length (now out) ⌝ }
-    ensures { λ r. ⌜ r ≡ toldOf sheet (queries (meaningless word)) ⌝ }
-    ensures { λ _. ⌜ now (out .exit) ≡ over (linesOn sheet (queries (meaningless word))) (now (out .entry)) ⌝ }
+    ensures { λ r. ⌜ Tells (now (sheet .entry)) (queries (meaningless word)) (now (sheet .entry)) (now (out .entry)) (now (out .exit)) r ⌝ }
 {
-    let written = refused(1, out);
-    Told {
-        sheet: sheet,
-        written: written,
-    }
+    refused(1, out)
 }
 
 // The call that was picked, with its first word and all its words.
-pub(crate) fn call(sheet: Sheet, pick: Pick, first: u32, taken: &[u32], out: &mut [u8]) -> Told
+pub(crate) fn call(
+    sheet: &mut [u32; Sheet::SIZE],
+    pick: Pick,
+    first: u32,
+    taken: &[u32],
+    out: &mut [u8],
+) -> usize
     requires { ⌜ callRoom ≤ length (now out) ⌝ }
-    ensures { λ r. ⌜ r ≡ toldOf sheet (callBy pick first (now (taken .entry))) ⌝ }
-    ensures { λ _. ⌜ now (out .exit) ≡ over (linesOn sheet (callBy pick first (now (taken .entry)))) (now (out .entry)) ⌝ }
+    ensures { λ r. ⌜ Tells (now (sheet .entry)) (callBy pick first (now (taken .entry))) (now (sheet .exit)) (now (out .entry)) (now (out .exit)) r ⌝ }
 {
     match pick {
         Pick::Opening => open(sheet, taken, out),

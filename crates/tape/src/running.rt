@@ -32,12 +32,12 @@ pub fn count(tape: &[u8]) -> usize
     ensures { λ r. ⌜ r ≡ length (lines (now (tape .entry))) ⌝ }
 {
     let mut out = [0u8; CALL_ROOM];
-    let mut sheet = Sheet::fresh();
+    let fresh = Sheet::fresh();
+    let mut sheet = fresh.numbers;
     let mut rest = &tape[..];
     let mut written: usize = 0;
     while rest.len() >= 4 {
-        let step = next(sheet, rest, &mut out);
-        sheet = step.sheet;
+        let step = next(&mut sheet, rest, &mut out);
         let used = step.used;
         rest = &rest[used..];
         written += step.written;
@@ -51,12 +51,12 @@ pub fn write(tape: &[u8], out: &mut [u8])
     ensures { λ _. ⌜ now (out .exit) ≡ over (lines (now (tape .entry))) (now (out .entry)) ⌝ }
 {
     let mut told = [0u8; CALL_ROOM];
-    let mut sheet = Sheet::fresh();
+    let fresh = Sheet::fresh();
+    let mut sheet = fresh.numbers;
     let mut rest = &tape[..];
     let mut at: usize = 0;
     while rest.len() >= 4 {
-        let step = next(sheet, rest, &mut told);
-        sheet = step.sheet;
+        let step = next(&mut sheet, rest, &mut told);
         let used = step.used;
         rest = &rest[used..];
         let written = step.written;

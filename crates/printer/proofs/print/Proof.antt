@@ -32,15 +32,17 @@ next-requires c κs = search needs
 array-share-prefix-out : tie.Need-array-share-prefix-out Inv-loop μ-loop
 array-share-prefix-out c =
     let l = c .before .before .before .before .before .loop in
-    let step = c .before .before .next in
-    step-fits (l .sheet) (l .rest .now) (omega arith) (step .ensures .0) (l .out) (step .ensures .1)
+    let step = c .before .next in
+    let rest = l .rest .now in
+    step-fits (l .sheet) rest (omega arith) (step .ensures .0) (l .out) (step .ensures .1 .1)
 
 slice-aggregate-write-all : tie.Need-slice-aggregate-write-all Inv-loop μ-loop
 slice-aggregate-write-all c =
     let l = c .before .before .before .before .before .before .loop in
-    let step = c .before .before .before .next in
+    let step = c .before .before .next in
+    let rest = l .rest .now in
     sym (length-take-le (step .result .written) (step .last .1 .1 .0)
-    (step-fits (l .sheet) (l .rest .now) (omega arith) (step .ensures .0) (l .out) (step .ensures .1)))
+    (step-fits (l .sheet) rest (omega arith) (step .ensures .0) (l .out) (step .ensures .1 .1)))
 
 write-all-requires : tie.Need-write-all-requires Inv-loop μ-loop
 write-all-requires c κs = search needs
@@ -52,12 +54,16 @@ returns c = search needs
 sub-rest : tie.Need-sub-rest Inv-loop μ-loop
 sub-rest c =
     let l = c .before .before .before .before .before .before .before .before .loop in
-    step-bytes (l .sheet) (l .rest .now) (omega arith) (c .before .before .before .before .before .next .ensures .0) .1
+    let step = c .before .before .before .before .next in
+    let rest = l .rest .now in
+    step-bytes (l .sheet) rest (omega arith) (step .ensures .0) .1
 
 part-rest-start : tie.Need-part-rest-start Inv-loop μ-loop
 part-rest-start c =
     let l = c .before .before .before .before .before .before .before .before .loop in
-    step-bytes (l .sheet) (l .rest .now) (omega arith) (c .before .before .before .before .before .next .ensures .0) .1
+    let step = c .before .before .before .before .next in
+    let rest = l .rest .now in
+    step-bytes (l .sheet) rest (omega arith) (step .ensures .0) .1
 
 part-rest-end : tie.Need-part-rest-end Inv-loop μ-loop
 part-rest-end c = search needs
@@ -65,7 +71,7 @@ part-rest-end c = search needs
 loop-less : tie.Need-loop-less Inv-loop μ-loop
 loop-less c =
     let l = c .before .before .before .before .before .before .before .before .before .loop in
-    let step = c .before .before .before .before .before .before .next in
+    let step = c .before .before .before .before .before .next in
     let rest = l .rest .now in
     omega (arith, step-bytes (l .sheet) rest (omega arith) (step .ensures .0) .0, lent-length (step .result .used) rest)
 

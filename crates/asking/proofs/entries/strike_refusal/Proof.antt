@@ -1,5 +1,8 @@
--- `entries::strike_refusal` meets its contract: it asks the questions in their order, each of what is seen.
+-- `entries::strike_refusal` meets its contract: it asks the questions in their order, each of what is seen or of the number.
+use mathlib.Core.Path.{refl}
 use borrow.Author.Needs.{needs}
+use lib.Dec.{eqb}
+use Rattle.questions.proofs.Ladder.{then-asked}
 use Rattle.ledger.specs.Questions.{refusalOf}
 use Rattle.asking.proofs.Asked.{opened-asked, held-asked}
 use Rattle.asking.proofs.entries.strike_refusal.Statement.{statement}
@@ -11,9 +14,17 @@ ask-requires c κs = search needs
 ask-requires-2 : tie.Need-ask-requires-2
 ask-requires-2 c κs = search needs
 
+ask-requires-3 : tie.Need-ask-requires-3
+ask-requires-3 c κs = search needs
+
 returns : tie.Need-returns
 unfolding refusalOf
-returns c = λ l sees. held-asked (opened-asked sees (c .before .before .ask .ensures)) sees (c .ask2 .ensures) .is
+returns c =
+    let b = c .before .before .before in
+    λ l sees.
+    let opened = opened-asked sees (b .ask .ensures) in
+    let plain = then-asked opened 1 tt (eqb (b .before .args .number) 0) (λ yes. refl) (c .before .before .ask2 .ensures) in
+    held-asked plain sees (c .ask3 .ensures) .is
 
 pub strike-refusal-spec : {M : Type 1} → statement M
-strike-refusal-spec = tie.close (tie.spec ask-requires ask-requires-2 returns)
+strike-refusal-spec = tie.close (tie.spec ask-requires ask-requires-2 ask-requires-3 returns)

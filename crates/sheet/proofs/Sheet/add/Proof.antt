@@ -1,5 +1,5 @@
 -- `Sheet::add` meets its contract: a refused equation keeps the sheet, and the line of an accepted one is what was seen of its words.
-use mathlib.Core.Path.{sym, _∙_}
+use mathlib.Core.Path.{sym}
 use Prim.Native.Nat.{_+_}
 use native.Mathlib.Omega.{arith}
 use borrow.Author.Needs.{needs}
@@ -9,7 +9,7 @@ use lib.Seq.{length-take-le}
 use Rattle.ledger.specs.Calls.{adds}
 use Rattle.asking.specs.Sees.{equationRoom}
 use Rattle.sheet.specs.Record.{ledgerOf}
-use Rattle.sheet.proofs.Entering.{add-width as line-width, turn-refused, add-opened, add-under, add-turn}
+use Rattle.sheet.proofs.Entering.{entry-refused, add-opened, add-under, add-width as line-width, add-accepted}
 use Rattle.sheet.proofs.Sheet.add.Statement.{statement}
 use Rattle.sheet.proofs.Sheet.add.Tie as tie
 
@@ -22,16 +22,14 @@ slice-aggregate-add-refusal c = search needs
 add-refusal-requires : tie.Need-add-refusal-requires
 add-refusal-requires c κs = search needs
 
-refused-requires : tie.Need-refused-requires
-refused-requires c κs = search needs
-
 returns : tie.Need-returns
 returns c =
     let a = c .before .before .before .before .before .before .before .args in
-    let asked = c .before .before .before .add-refusal in
-    c .refused .ensures
-    ∙ turn-refused (a .self) (adds (now (a .words))) (asked .result)
-    (asked .ensures .0 (ledgerOf (a .self)) (c .before .before .before .before .before .seen .ensures .0)) (c .before .if1 .taken)
+    let s = now (a .sheet) in
+    let seen = c .before .before .before .before .seen in
+    let asked = c .before .before .add-refusal in
+    let is = asked .ensures .0 (ledgerOf s) (seen .ensures .0) in
+    entry-refused s (adds (now (a .words))) (asked .result) is (c .if1 .taken)
 
 add-width : tie.Need-add-width
 add-width c = search needs
@@ -41,36 +39,34 @@ array-share-prefix-numbers c = search needs
 
 slice-aggregate-with-line : tie.Need-slice-aggregate-with-line
 slice-aggregate-with-line c =
-    let s = c .before .before .before .before .before .before .before .before .args .self in
-    let ws = now (c .before .before .before .before .before .before .before .before .args .words) in
-    let seen = c .before .before .before .before .before .before .seen in
-    let asked = c .before .before .before .before .add-refusal in
-    let is = asked .ensures .0 (ledgerOf s) (seen .ensures .0) in
-    let accepted = c .before .before .if1 .left in
-    sym (length-take-le (seen .result .unknowns + 1) (asked .last .1 .1 .0) (omega arith))
+    let seen = c .before .before .before .before .before .before .before .seen in
+    sym (length-take-le (seen .result .unknowns + 1) (c .before .before .before .before .before .add-refusal .last .1 .1 .0) (omega arith))
 
 with-line-requires : tie.Need-with-line-requires
 with-line-requires c κs =
-    let s = c .before .before .before .before .before .before .before .before .args .self in
-    let ws = now (c .before .before .before .before .before .before .before .before .args .words) in
-    let seen = c .before .before .before .before .before .before .seen in
-    let asked = c .before .before .before .before .add-refusal in
-    let is = asked .ensures .0 (ledgerOf s) (seen .ensures .0) in
-    let accepted = c .before .before .if1 .left in (
-      add-opened s ws (seen .ensures .0) (asked .result) is accepted,
-      add-under s ws (seen .ensures .0) (asked .result) is accepted,
-      line-width s ws (seen .ensures .0) (asked .result) is accepted (replicate equationRoom 0) (asked .ensures .1),
-    )
-
-returns-2 : tie.Need-returns-2
-returns-2 c =
-    let s = c .before .before .before .before .before .before .before .before .before .args .self in
-    let ws = now (c .before .before .before .before .before .before .before .before .before .args .words) in
+    let a = c .before .before .before .before .before .before .before .before .before .before .args in
+    let s = now (a .sheet) in
     let seen = c .before .before .before .before .before .before .before .seen in
     let asked = c .before .before .before .before .before .add-refusal in
     let is = asked .ensures .0 (ledgerOf s) (seen .ensures .0) in
-    c .with-line .ensures
-    ∙ add-turn s ws (seen .ensures .0) (asked .result) is (c .before .before .before .if1 .left) (replicate equationRoom 0) (asked .ensures .1)
+    let accepted = c .before .before .before .if1 .left in (
+      add-opened s (now (a .words)) (seen .ensures .0) (asked .result) is accepted,
+      add-under s (now (a .words)) (seen .ensures .0) (asked .result) is accepted,
+      line-width s (now (a .words)) (seen .ensures .0) (asked .result) is accepted (replicate equationRoom 0) (asked .ensures .1),
+    )
+
+add-t16 : tie.Need-add-t16
+add-t16 c = search needs
+
+returns-2 : tie.Need-returns-2
+returns-2 c =
+    let a = c .before .before .before .before .before .before .before .before .before .before .before .before .args in
+    let s = now (a .sheet) in
+    let seen = c .before .before .before .before .before .before .before .before .before .seen in
+    let asked = c .before .before .before .before .before .before .before .add-refusal in
+    let is = asked .ensures .0 (ledgerOf s) (seen .ensures .0) in
+    add-accepted s (now (a .words)) (seen .ensures .0) (asked .result) is (c .before .before .before .before .before .if1 .left) (replicate equationRoom 0)
+    (asked .ensures .1) (c .before .with-line .ensures)
 
 pub add-spec : {M : Type 1} → statement M
 add-spec =
@@ -79,10 +75,10 @@ add-spec =
     seen-requires
     slice-aggregate-add-refusal
     add-refusal-requires
-    refused-requires
     returns
     add-width
     array-share-prefix-numbers
     slice-aggregate-with-line
     with-line-requires
+    add-t16
     returns-2)

@@ -10,10 +10,9 @@ use lib.ListN.{length}
 use lib.Seq.{length-take-le}
 use Rattle.slices.specs.Over.{over}
 use Rattle.equations.proofs.Truth.{of-true}
-use Rattle.sheet.specs.Record.{ledgerOf}
 use Rattle.sheet.specs.declared.answering.Answered.the-variants.{Wrote}
-use Rattle.sheet.proofs.Opened.{viewed-block}
-use Rattle.sheet.proofs.Solved.{reads-small, solved-whole, solved-words, solved-size, solved-start, solved-head, solved-below}
+use Rattle.sheet.specs.Record.{ledgerOf}
+use Rattle.sheet.proofs.Solved.{reads-small, solved-whole, solved-words, solved-size, solved-head, solved-start, solved-below}
 use Rattle.sheet.proofs.Answers.{answered-unopened, answered-short, answered-wrote}
 use Rattle.sheet.proofs.Sheet.answer.Statement.{statement}
 use Rattle.sheet.proofs.Sheet.answer.Tie as tie
@@ -24,66 +23,56 @@ view-requires c κs = search needs
 returns : tie.Need-returns
 returns c =
     let a = c .before .before .before .before .before .args in
-    let view = c .before .before .before .view in
-    answered-unopened (ledgerOf (a .self)) (now (a .buffer)) (sym (view .ensures .0 .sees .opened) ∙ not-true _ (c .if1 .taken))
+    let view = c .before .before .before .view .ensures .0 in
+    answered-unopened (ledgerOf (now (a .sheet))) (now (a .buffer)) (sym (view .sees .opened) ∙ not-true _ (c .if1 .taken))
 
 block-of-requires : tie.Need-block-of-requires
 block-of-requires c κs =
-    let view = c .before .before .before .view in
-    let is = of-true (sym (view .ensures .0 .sees .opened) ∙ not-false _ (c .if1 .left)) in
-    (view .ensures .0 .fits, view .ensures .0 .posed is)
+    let view = c .before .before .before .before .view .ensures .0 in
+    (view, of-true (sym (view .sees .opened) ∙ not-false _ (c .before .if1 .left)))
 
 add-size : tie.Need-add-size
 add-size c =
-    let l = ledgerOf (c .before .before .before .before .before .before .args .self) in
-    let view = c .before .before .before .before .view in
-    let is = of-true (sym (view .ensures .0 .sees .opened) ∙ not-false _ (c .before .if1 .left)) in
-    let block = c .block-of .result in
-    let room : length (block .numbers) ≡ 272 = search needs in
-    omega (arith, solved-whole l block (viewed-block (view .ensures .0) is (c .block-of .ensures)))
+    let l = ledgerOf (now (c .before .before .before .before .before .before .before .args .sheet)) in
+    let block = c .block-of in
+    let room : length (block .result .numbers) ≡ 272 = search needs in
+    omega (arith, solved-whole l (block .result) (block .ensures))
 
 returns-2 : tie.Need-returns-2
 returns-2 c =
-    let a = c .before .before .before .before .before .before .before .args in
-    let l = ledgerOf (a .self) in
-    let view = c .before .before .before .before .before .view in
-    let opens = sym (view .ensures .0 .sees .opened) ∙ not-false _ (c .before .before .if1 .left) in
-    let block = c .before .block-of .result in
-    let made = viewed-block (view .ensures .0) (of-true opens) (c .before .block-of .ensures) in
-    answered-short l (now (a .buffer)) opens (omega (arith, solved-size l block made (of-true opens)))
+    let a = c .before .before .before .before .before .before .before .before .args in
+    let l = ledgerOf (now (a .sheet)) in
+    let view = c .before .before .before .before .before .before .view .ensures .0 in
+    let opens = sym (view .sees .opened) ∙ not-false _ (c .before .before .before .if1 .left) in
+    let block = c .before .block-of in
+    answered-short l (now (a .buffer)) opens (omega (arith, solved-size l (block .result) (block .ensures) (of-true opens)))
 
 array-share-prefix-numbers : tie.Need-array-share-prefix-numbers
 array-share-prefix-numbers c =
-    let l = ledgerOf (c .before .before .before .before .before .before .before .before .args .self) in
-    let view = c .before .before .before .before .before .before .view in
-    let is = of-true (sym (view .ensures .0 .sees .opened) ∙ not-false _ (c .before .before .before .if1 .left)) in
-    solved-whole l (c .before .before .block-of .result) (viewed-block (view .ensures .0) is (c .before .before .block-of .ensures))
+    let block = c .before .before .block-of in
+    solved-whole (ledgerOf (now (c .before .before .before .before .before .before .before .before .before .args .sheet))) (block .result) (block .ensures)
 
 slice-aggregate-write-block : tie.Need-slice-aggregate-write-block
 slice-aggregate-write-block c =
-    let l = ledgerOf (c .before .before .before .before .before .before .before .before .before .args .self) in
-    let view = c .before .before .before .before .before .before .before .view in
-    let is = of-true (sym (view .ensures .0 .sees .opened) ∙ not-false _ (c .before .before .before .before .if1 .left)) in
-    let block = c .before .before .before .block-of .result in
-    sym (length-take-le (block .len) (block .numbers)
-    (solved-whole l block (viewed-block (view .ensures .0) is (c .before .before .before .block-of .ensures))))
+    let block = c .before .before .before .block-of in
+    sym (length-take-le (block .result .len) (block .result .numbers)
+    (solved-whole (ledgerOf (now (c .before .before .before .before .before .before .before .before .before .before .args .sheet))) (block .result) (block .ensures)))
 
 write-block-requires : tie.Need-write-block-requires
 write-block-requires c κs =
-    let s = c .before .before .before .before .before .before .before .before .before .before .args .self in
-    let l = ledgerOf s in
-    let view = c .before .before .before .before .before .before .before .before .view in
-    let is = of-true (sym (view .ensures .0 .sees .opened) ∙ not-false _ (c .before .before .before .before .before .if1 .left)) in
-    let block = c .before .before .before .before .block-of .result in
-    let made = viewed-block (view .ensures .0) is (c .before .before .before .before .block-of .ensures) in
-    let long = length-take-le (block .len) (block .numbers) (solved-whole l block made) in
-    let unknowns = view .ensures .0 .sees .unknowns in (
+    let a = c .before .before .before .before .before .before .before .before .before .before .before .args in
+    let l = ledgerOf (now (a .sheet)) in
+    let view = c .before .before .before .before .before .before .before .before .before .view .ensures .0 in
+    let opens = sym (view .sees .opened) ∙ not-false _ (c .before .before .before .before .before .before .if1 .left) in
+    let block = c .before .before .before .before .block-of in
+    let small = reads-small (now (a .sheet)) (of-true opens) in
+    let long = length-take-le (block .result .len) (block .result .numbers) (solved-whole l (block .result) (block .ensures)) in (
       (
-        solved-head l block made (reads-small s is),
-        (λ some. omega (arith, long, unknowns, solved-start l block made some)),
+        solved-head l (block .result) (block .ensures) small,
+        (λ some. omega (arith, long, view .sees .unknowns, solved-start l (block .result) (block .ensures) some)),
         omega (arith, long),
       ),
-      solved-below l block made (reads-small s is),
+      solved-below l (block .result) (block .ensures) small,
     )
 
 same-length : tie.Need-same-length
@@ -91,17 +80,17 @@ same-length c = search needs
 
 returns-3 : tie.Need-returns-3
 returns-3 c =
-    let a = c .before .before .before .before .before .before .before .before .before .before .before .before .before .args in
-    let l = ledgerOf (a .self) in
+    let a = c .before .before .before .before .before .before .before .before .before .before .before .before .before .before .args in
+    let l = ledgerOf (now (a .sheet)) in
+    let view = c .before .before .before .before .before .before .before .before .before .before .before .before .view .ensures .0 in
+    let opens = sym (view .sees .opened) ∙ not-false _ (c .before .before .before .before .before .before .before .before .before .if1 .left) in
+    let block = c .before .before .before .before .before .before .before .block-of in
     let old = now (a .buffer) in
-    let view = c .before .before .before .before .before .before .before .before .before .before .before .view in
-    let opens = sym (view .ensures .0 .sees .opened) ∙ not-false _ (c .before .before .before .before .before .before .before .before .if1 .left) in
-    let block = c .before .before .before .before .before .before .before .block-of .result in
-    let made = viewed-block (view .ensures .0) (of-true opens) (c .before .before .before .before .before .before .before .block-of .ensures) in
-    let size = solved-size l block made (of-true opens) in
+    let size = solved-size l (block .result) (block .ensures) (of-true opens) in
     let wrote = answered-wrote l old opens (omega (arith, size)) in (
       ap Wrote (sym size) ∙ wrote .0,
-      c .before .before .write-block .ensures ∙ ap (λ (ws : List ℕ). over ws old) (solved-words l block made (of-true opens)) ∙ wrote .1,
+      c .before .before .write-block .ensures
+          ∙ ap (λ (ws : List ℕ). over ws old) (solved-words l (block .result) (block .ensures) (of-true opens)) ∙ wrote .1,
     )
 
 pub answer-spec : {M : Type 1} → statement M

@@ -1,4 +1,4 @@
--- `Sheet::fresh` meets its contract: it is the record that the definition writes.
+-- `Sheet::fresh` meets its contract: it is the memory that the definition writes.
 use mathlib.Core.Path.{refl}
 use Rattle.sheet.specs.Record.{fresh}
 use Rattle.sheet.proofs.Sheet.fresh.Statement.{statement}
@@ -9,4 +9,7 @@ unfolding fresh
 returns c = refl
 
 pub fresh-spec : {M : Type 1} → statement M
-fresh-spec = tie.close (tie.spec returns)
+fresh-spec =
+    tie.close
+    (tie.spec
+    returns)

@@ -5,7 +5,6 @@ use native.Mathlib.Omega.{arith}
 use borrow.Author.Needs.{needs}
 use denote.Ref.{now}
 use lib.ListN.{replicate}
-use lib.Seq.{length-take-le}
 use Rattle.equations.specs.declared.Mark.the-variants.{Pass, Fail}
 use Rattle.asking.specs.Sees.{claimRoom}
 use Rattle.sheet.specs.declared.marking.Marked.the-variants.{Gets}
@@ -27,7 +26,7 @@ mark-refusal-requires c κs = search needs
 returns : tie.Need-returns
 returns c =
     let a = c .before .before .before .before .before .before .before .args in
-    let l = ledgerOf (a .self) in
+    let l = ledgerOf (now (a .sheet)) in
     let asked = c .before .before .mark-refusal in
     marked-refused l (now (a .words)) (asked .result) (sym (asked .ensures .0 l (c .before .before .before .before .before .view .ensures .0 .sees))) (c .if1 .taken)
 
@@ -40,40 +39,26 @@ wide-requires c κs = search needs
 mul-end : tie.Need-mul-end
 mul-end c =
     let a = c .before .before .before .before .before .before .before .before .args in
-    let l = ledgerOf (a .self) in
-    let view = c .before .before .before .before .before .before .view in
-    let asked = c .before .before .before .mark-refusal in
-    let accepted = sym (asked .ensures .0 l (view .ensures .0 .sees)) ∙ c .before .if1 .left in
-    let few = unknowns-few (a .self) in
-    let head = c .wide in
-    omega (
-      arith,
-      mark-end l (now (a .words)) accepted few (replicate claimRoom 0) (asked .ensures .1) (view .result .seen .modulus)
-          (view .result .seen .unknowns) (head .result) (view .ensures .0 .sees .modulus) (view .ensures .0 .sees .unknowns) (head .ensures),
-    )
+    let s = now (a .sheet) in
+    let ws = now (a .words) in
+    let view = c .before .before .before .before .before .before .view .ensures .0 in
+    let asked = c .before .before .before .mark-refusal .ensures in
+    let accepted = sym (asked .0 (ledgerOf s) (view .sees)) ∙ c .before .if1 .left in
+    let end = mark-end (ledgerOf s) ws accepted (unknowns-few s) (replicate claimRoom 0) (asked .1) (view .sees) (c .wide .result)
+    (c .wide .ensures) in
+    omega (arith, end)
 
 add-end : tie.Need-add-end
 add-end c =
     let a = c .before .before .before .before .before .before .before .before .args in
-    let l = ledgerOf (a .self) in
-    let view = c .before .before .before .before .before .before .view in
-    let asked = c .before .before .before .mark-refusal in
-    let accepted = sym (asked .ensures .0 l (view .ensures .0 .sees)) ∙ c .before .if1 .left in
-    let few = unknowns-few (a .self) in
-    let head = c .wide in
-    omega (
-      arith,
-      mark-end l (now (a .words)) accepted few (replicate claimRoom 0) (asked .ensures .1) (view .result .seen .modulus)
-          (view .result .seen .unknowns) (head .result) (view .ensures .0 .sees .modulus) (view .ensures .0 .sees .unknowns) (head .ensures),
-    )
-
-array-share-prefix-lines : tie.Need-array-share-prefix-lines
-array-share-prefix-lines c = search needs
-
-slice-aggregate-mark : tie.Need-slice-aggregate-mark
-slice-aggregate-mark c =
-    let view = c .before .before .before .before .before .before .before .before .view in
-    sym (length-take-le (view .result .len) (view .result .lines) (view .ensures .0 .fits))
+    let s = now (a .sheet) in
+    let ws = now (a .words) in
+    let view = c .before .before .before .before .before .before .view .ensures .0 in
+    let asked = c .before .before .before .mark-refusal .ensures in
+    let accepted = sym (asked .0 (ledgerOf s) (view .sees)) ∙ c .before .if1 .left in
+    let end = mark-end (ledgerOf s) ws accepted (unknowns-few s) (replicate claimRoom 0) (asked .1) (view .sees) (c .wide .result)
+    (c .wide .ensures) in
+    omega (arith, end)
 
 sub-mark : tie.Need-sub-mark
 sub-mark c = search needs
@@ -83,60 +68,68 @@ part-mark-start c = search needs
 
 part-mark-end : tie.Need-part-mark-end
 part-mark-end c =
+    let a = c .before .before .before .before .before .before .before .before .before .args in
+    let s = now (a .sheet) in
+    let ws = now (a .words) in
+    let view = c .before .before .before .before .before .before .before .view .ensures .0 in
+    let asked = c .before .before .before .before .mark-refusal .ensures in
+    let accepted = sym (asked .0 (ledgerOf s) (view .sees)) ∙ c .before .before .if1 .left in
+    view .fits (mark-opened (ledgerOf s) ws accepted)
+
+sub-mark-2 : tie.Need-sub-mark-2
+sub-mark-2 c = search needs
+
+part-mark-start-2 : tie.Need-part-mark-start-2
+part-mark-start-2 c = search needs
+
+part-mark-end-2 : tie.Need-part-mark-end-2
+part-mark-end-2 c =
     let a = c .before .before .before .before .before .before .before .before .before .before .before .args in
-    let l = ledgerOf (a .self) in
-    let view = c .before .before .before .before .before .before .before .before .before .view in
-    let asked = c .before .before .before .before .before .before .mark-refusal in
-    let accepted = sym (asked .ensures .0 l (view .ensures .0 .sees)) ∙ c .before .before .before .before .if1 .left in
-    let few = unknowns-few (a .self) in
-    let head = c .before .before .before .wide in
-    omega (
-      arith,
-      mark-end l (now (a .words)) accepted few (replicate claimRoom 0) (asked .ensures .1) (view .result .seen .modulus)
-          (view .result .seen .unknowns) (head .result) (view .ensures .0 .sees .modulus) (view .ensures .0 .sees .unknowns) (head .ensures),
-    )
+    let s = now (a .sheet) in
+    let ws = now (a .words) in
+    let view = c .before .before .before .before .before .before .before .before .before .view .ensures .0 in
+    let asked = c .before .before .before .before .before .before .mark-refusal .ensures in
+    let accepted = sym (asked .0 (ledgerOf s) (view .sees)) ∙ c .before .before .before .before .if1 .left in
+    let end = mark-end (ledgerOf s) ws accepted (unknowns-few s) (replicate claimRoom 0) (asked .1) (view .sees) (c .before .before .before .wide .result)
+    (c .before .before .before .wide .ensures) in
+    omega (arith, end)
 
 mark-requires : tie.Need-mark-requires
 mark-requires c κs =
     let a = c .before .before .before .before .before .before .before .before .before .before .before .before .args in
-    let l = ledgerOf (a .self) in
-    let view = c .before .before .before .before .before .before .before .before .before .before .view in
-    let asked = c .before .before .before .before .before .before .before .mark-refusal in
-    let accepted = sym (asked .ensures .0 l (view .ensures .0 .sees)) ∙ c .before .before .before .before .before .if1 .left in
-    let few = unknowns-few (a .self) in
-    let head = c .before .before .before .before .wide in (
-      view .ensures .0 .posed (mark-opened l (now (a .words)) accepted),
-      mark-claimed l (now (a .words)) accepted few (replicate claimRoom 0) (asked .ensures .1) (view .result .seen .modulus)
-          (view .result .seen .unknowns) (head .result) (view .ensures .0 .sees .modulus) (view .ensures .0 .sees .unknowns) (head .ensures),
+    let s = now (a .sheet) in
+    let ws = now (a .words) in
+    let view = c .before .before .before .before .before .before .before .before .before .before .view .ensures .0 in
+    let asked = c .before .before .before .before .before .before .before .mark-refusal .ensures in
+    let accepted = sym (asked .0 (ledgerOf s) (view .sees)) ∙ c .before .before .before .before .before .if1 .left in (
+      view .posed (mark-opened (ledgerOf s) ws accepted),
+      mark-claimed (ledgerOf s) ws accepted (unknowns-few s) (replicate claimRoom 0) (asked .1) (view .sees) (c .before .before .before .before .wide .result)
+          (c .before .before .before .before .wide .ensures),
     )
 
 returns-2 : tie.Need-returns-2
 returns-2 c =
     let a = c .before .before .before .before .before .before .before .before .before .before .before .before .before .before .args in
-    let l = ledgerOf (a .self) in
-    let view = c .before .before .before .before .before .before .before .before .before .before .before .before .view in
-    let asked = c .before .before .before .before .before .before .before .before .before .mark-refusal in
-    let accepted = sym (asked .ensures .0 l (view .ensures .0 .sees)) ∙ c .before .before .before .before .before .before .before .if1 .left in
-    let few = unknowns-few (a .self) in
-    let head = c .before .before .before .before .before .before .wide in
+    let s = now (a .sheet) in
+    let ws = now (a .words) in
+    let view = c .before .before .before .before .before .before .before .before .before .before .before .before .view .ensures .0 in
+    let asked = c .before .before .before .before .before .before .before .before .before .mark-refusal .ensures in
+    let accepted = sym (asked .0 (ledgerOf s) (view .sees)) ∙ c .before .before .before .before .before .before .before .if1 .left in
     ap (λ b. Gets (cond b Pass Fail)) (sym (c .if2 .taken))
-    ∙ marked-as l (now (a .words)) accepted few (replicate claimRoom 0) (asked .ensures .1) (view .result .seen .modulus)
-    (view .result .seen .unknowns) (head .result) (view .ensures .0 .sees .modulus) (view .ensures .0 .sees .unknowns) (head .ensures) _
-    (view .ensures .0 .equations (mark-opened l (now (a .words)) accepted)) (c .before .mark .result) (c .before .mark .ensures)
+    ∙ marked-as (ledgerOf s) ws accepted (unknowns-few s) (replicate claimRoom 0) (asked .1) (view .sees) (c .before .before .before .before .before .before .wide .result)
+    (c .before .before .before .before .before .before .wide .ensures) _ (view .equations (mark-opened (ledgerOf s) ws accepted)) (c .before .mark .result) (c .before .mark .ensures)
 
 returns-3 : tie.Need-returns-3
 returns-3 c =
     let a = c .before .before .before .before .before .before .before .before .before .before .before .before .before .before .args in
-    let l = ledgerOf (a .self) in
-    let view = c .before .before .before .before .before .before .before .before .before .before .before .before .view in
-    let asked = c .before .before .before .before .before .before .before .before .before .mark-refusal in
-    let accepted = sym (asked .ensures .0 l (view .ensures .0 .sees)) ∙ c .before .before .before .before .before .before .before .if1 .left in
-    let few = unknowns-few (a .self) in
-    let head = c .before .before .before .before .before .before .wide in
+    let s = now (a .sheet) in
+    let ws = now (a .words) in
+    let view = c .before .before .before .before .before .before .before .before .before .before .before .before .view .ensures .0 in
+    let asked = c .before .before .before .before .before .before .before .before .before .mark-refusal .ensures in
+    let accepted = sym (asked .0 (ledgerOf s) (view .sees)) ∙ c .before .before .before .before .before .before .before .if1 .left in
     ap (λ b. Gets (cond b Pass Fail)) (sym (c .if2 .left))
-    ∙ marked-as l (now (a .words)) accepted few (replicate claimRoom 0) (asked .ensures .1) (view .result .seen .modulus)
-    (view .result .seen .unknowns) (head .result) (view .ensures .0 .sees .modulus) (view .ensures .0 .sees .unknowns) (head .ensures) _
-    (view .ensures .0 .equations (mark-opened l (now (a .words)) accepted)) (c .before .mark .result) (c .before .mark .ensures)
+    ∙ marked-as (ledgerOf s) ws accepted (unknowns-few s) (replicate claimRoom 0) (asked .1) (view .sees) (c .before .before .before .before .before .before .wide .result)
+    (c .before .before .before .before .before .before .wide .ensures) _ (view .equations (mark-opened (ledgerOf s) ws accepted)) (c .before .mark .result) (c .before .mark .ensures)
 
 pub mark-spec : {M : Type 1} → statement M
 mark-spec =
@@ -150,11 +143,12 @@ mark-spec =
     wide-requires
     mul-end
     add-end
-    array-share-prefix-lines
-    slice-aggregate-mark
     sub-mark
     part-mark-start
     part-mark-end
+    sub-mark-2
+    part-mark-start-2
+    part-mark-end-2
     mark-requires
     returns-2
     returns-3)

@@ -2,7 +2,7 @@
 use mathlib.Core.Path.{sym}
 use borrow.Author.Needs.{needs}
 use denote.Ref.{now}
-use lib.ListN.{length, replicate}
+use lib.ListN.{replicate}
 use lib.Seq.{length-take-le}
 use Rattle.slices.proofs.Over.{over-front}
 use Rattle.sheet.specs.Record.{ledgerOf}
@@ -41,7 +41,7 @@ array-share-prefix-taken c = search needs
 
 slice-aggregate-call : tie.Need-slice-aggregate-call
 slice-aggregate-call c =
-    sym (length-take-le (c .before .before .before .before .smaller .result) (c .before .before .words .last .1 .1 .0) (search needs))
+    sym (length-take-le (c .before .before .before .before .before .smaller .result) (c .before .before .before .words .last .1 .1 .0) (search needs))
 
 call-requires : tie.Need-call-requires
 call-requires c κs = search needs
@@ -54,24 +54,25 @@ same-length c = search needs
 
 returns : tie.Need-returns
 returns c =
-    let z = c .before .before .before .before .before .before .before .before .before .before .before .before .before .before .before .before .before in
+    let z = c .before .before .before .before .before .before .before .before .before .before .before .before .before .before .before .before .before .before in
+    let s = now (z .args .sheet) in
     let rest = now (z .args .rest) in
-    let l = ledgerOf (z .args .sheet) in
-    let first = c .before .before .before .before .before .before .before .before .before .before .before .before .before .before .word in
-    let head = c .before .before .before .before .before .before .before .before .before .before .before .before .before .unpack in
-    let pick = c .before .before .before .before .before .before .before .before .before .before .before .before .picked in
+    let l = ledgerOf s in
+    let first = c .before .before .before .before .before .before .before .before .before .before .before .before .before .before .before .word in
+    let head = c .before .before .before .before .before .before .before .before .before .before .before .before .before .before .unpack in
+    let pick = c .before .before .before .before .before .before .before .before .before .before .before .before .before .picked in
     let length = c .before .before .before .before .before .before .before .before .before .before .call-length in
     let count = c .before .before .before .before .before .before .before .before .before .smaller in
     let words = c .before .before .before .before .before .before .before .words in
-    let told = c .before .before .before .call in
     let picks = next-picks (first .result) (head .ensures) (pick .ensures) in
-    let wants = next-wants l (first .result) (head .ensures) (pick .ensures) (c .before .before .before .before .before .before .before .before .before .before .before .seen .ensures .0 .unknowns) (length .ensures .0) in
-    let front = over-front (count .result) (wordsWithin (count .result) rest) (replicate 273 0) (words .ensures)
-    (within-length (count .result) rest) in
-    stepped (z .args .sheet) rest (z .args .out .now)
+    let wants =
+    next-wants l (first .result) (head .ensures) (pick .ensures) (c .before .before .before .before .before .before .before .before .before .before .before .seen .ensures .0 .unknowns) (length .ensures .0) in
+    let front =
+    over-front (count .result) (wordsWithin (count .result) rest) (replicate 273 0) (words .ensures) (within-length (count .result) rest) in
+    stepped s rest
     (next-call l rest (z .pre .0) (first .result) (length .result) (count .result) _ (first .ensures) wants (count .ensures) front picks)
     (next-used l rest (z .pre .0) (first .result) (length .result) (count .result) _ (first .ensures) wants (count .ensures) front picks)
-    (told .ensures .0) (told .ensures .1)
+    (c .before .before .call .ensures)
 
 pub next-spec : {M : Type 1} → statement M
 next-spec =

@@ -1,11 +1,11 @@
 -- `printing::add` meets its contract: what the sheet's call says is told in one line.
-use mathlib.Core.Path.{refl, ap}
+use mathlib.Core.Path.{refl}
 use borrow.Author.Needs.{needs}
 use denote.Ref.{now}
 use Rattle.ledger.specs.Calls.{adds, enters}
-use Rattle.sheet.specs.declared.Turn.{Turn}
+use Rattle.sheet.proofs.Few.{held-few}
 use Rattle.tape.specs.Ascii.{bytesOf}
-use Rattle.tape.proofs.Told.{told, entered-told, held-few}
+use Rattle.tape.proofs.Told.{told, entered-told}
 use Rattle.tape.proofs.printing.add.Statement.{statement}
 use Rattle.tape.proofs.printing.add.Tie as tie
 
@@ -17,9 +17,8 @@ slice-aggregate-entered-line c = search needs
 
 entered-line-requires : tie.Need-entered-line-requires
 entered-line-requires c κs =
-    let turn = c .before .before .before .add in
     let a = c .before .before .before .before .before .before .args in
-    (search needs, held-few (a .sheet) (adds (now (a .words))) (turn .ensures), search needs)
+    (search needs, held-few (now (a .sheet)) (adds (now (a .words))) (c .before .before .add .ensures .0), search needs)
 
 same-length : tie.Need-same-length
 same-length c = search needs
@@ -27,13 +26,18 @@ same-length c = search needs
 returns : tie.Need-returns
 returns c =
     let a = c .before .before .before .before .before .before .before .before .before .args in
-    let call = enters (adds (now (a .words))) in
-    let turn = c .before .before .before .before .before .before .add in
+    let s = now (a .sheet) in
+    let call = adds (now (a .words)) in
+    let said = c .before .before .before .before .before .add .ensures in
     let line = c .before .before .entered-line in
-    told (a .sheet) call (a .out .now) (ap (λ (t : Turn). t .sheet) (turn .ensures))
-    (entered-told (a .sheet) (adds (now (a .words))) (turn .ensures) (bytesOf "added") refl) (line .ensures .0) (line .ensures .1)
+    told s (enters call) (a .out .now) (said .1) (entered-told s call (said .0) (bytesOf "added") refl) (line .ensures .0) (line .ensures .1)
 
 pub add-spec : {M : Type 1} → statement M
 add-spec =
     tie.close
-    (tie.spec add-requires slice-aggregate-entered-line entered-line-requires same-length returns)
+    (tie.spec
+    add-requires
+    slice-aggregate-entered-line
+    entered-line-requires
+    same-length
+    returns)

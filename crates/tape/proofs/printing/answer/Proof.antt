@@ -1,6 +1,7 @@
 -- `printing::answer` meets its contract: the numbers that the sheet's call shows are printed in lines, or its refusal in one.
 use mathlib.Core.Path.{refl, sym}
 use borrow.Author.Needs.{needs}
+use denote.Ref.{now}
 use lib.Seq.{length-take-le}
 use Rattle.ledger.specs.Calls.{answersFromTape, queries}
 use Rattle.tape.proofs.Told.{told}
@@ -23,28 +24,27 @@ same-length c = search needs
 returns : tie.Need-returns
 returns c =
     let a = c .before .before .before .before .before .before .before .before .before .args in
+    let s = now (a .sheet) in
     let line = c .before .before .refused in
-    told (a .sheet) (queries (answersFromTape (a .word))) (a .out .now) refl
-    (refused-shown (a .sheet) (a .word) (c .before .before .before .before .before .before .answer-from-tape .ensures) (c .before .before .before .before .if1 .taken)) (line .ensures .0)
-    (line .ensures .1)
+    told s (queries (answersFromTape (a .word))) (a .out .now) refl
+    (refused-shown s (a .word) (c .before .before .before .before .before .before .answer-from-tape .ensures) (c .before .before .before .before .if1 .taken)) (line .ensures .0) (line .ensures .1)
 
 array-share-prefix-numbers : tie.Need-array-share-prefix-numbers
 array-share-prefix-numbers c =
     let a = c .before .before .before .before .before .before .before .args in
-    shown-whole (a .sheet) (a .word) (c .before .before .before .before .answer-from-tape .ensures) (c .before .before .if1 .left)
+    shown-whole (now (a .sheet)) (a .word) (c .before .before .before .before .answer-from-tape .ensures) (c .before .before .if1 .left)
 
 slice-aggregate-block-lines : tie.Need-slice-aggregate-block-lines
 slice-aggregate-block-lines c =
     let a = c .before .before .before .before .before .before .before .before .args in
     let shown = c .before .before .before .before .before .answer-from-tape in
     sym (length-take-le (shown .result .block .len) (shown .result .block .numbers)
-    (shown-whole (a .sheet) (a .word) (shown .ensures) (c .before .before .before .if1 .left)))
+    (shown-whole (now (a .sheet)) (a .word) (shown .ensures) (c .before .before .before .if1 .left)))
 
 block-lines-requires : tie.Need-block-lines-requires
 block-lines-requires c κs =
     let a = c .before .before .before .before .before .before .before .before .before .args in (
-      shown-can (a .sheet) (a .word) (c .before .before .before .before .before .before .answer-from-tape .ensures) (c .before .before .before .before .if1 .left)
-          (c .before .before .before .before .before .before .before .seen .ensures .0 .unknowns),
+      shown-can (now (a .sheet)) (a .word) (c .before .before .before .before .before .before .answer-from-tape .ensures) (c .before .before .before .before .if1 .left) (c .before .before .before .before .before .before .before .seen .ensures .0 .unknowns),
       search needs,
     )
 
@@ -54,10 +54,11 @@ same-length-2 c = search needs
 returns-2 : tie.Need-returns-2
 returns-2 c =
     let a = c .before .before .before .before .before .before .before .before .before .before .before .before .args in
+    let s = now (a .sheet) in
     let line = c .before .before .block-lines in
-    told (a .sheet) (queries (answersFromTape (a .word))) (a .out .now) refl
-    (shown-lines (a .sheet) (a .word) (c .before .before .before .before .before .before .before .before .before .answer-from-tape .ensures) (c .before .before .before .before .before .before .before .if1 .left)
-    (c .before .before .before .before .before .before .before .before .before .before .seen .ensures .0 .unknowns)) (line .ensures .0) (line .ensures .1)
+    told s (queries (answersFromTape (a .word))) (a .out .now) refl
+    (shown-lines s (a .word) (c .before .before .before .before .before .before .before .before .before .answer-from-tape .ensures) (c .before .before .before .before .before .before .before .if1 .left) (c .before .before .before .before .before .before .before .before .before .before .seen .ensures .0 .unknowns)) (line .ensures .0)
+    (line .ensures .1)
 
 pub answer-spec : {M : Type 1} → statement M
 answer-spec =

@@ -1,10 +1,7 @@
 -- `printing::call` meets its contract, call by call.
-use mathlib.Core.Path.{sym, ap}
 use borrow.Author.Needs.{needs}
 use denote.Ref.{now}
-use Rattle.tape.specs.declared.picking.Pick.{Pick}
-use Rattle.tape.specs.FirstCall.{callBy}
-use Rattle.tape.proofs.Picked.{picked-told}
+use Rattle.tape.proofs.Picked.{picked-told, picked-call}
 use Rattle.tape.proofs.printing.call.Statement.{statement}
 use Rattle.tape.proofs.printing.call.Tie as tie
 
@@ -49,60 +46,48 @@ same-length c = search needs
 
 returns : tie.Need-returns
 returns c =
-    let a = c .before .before .before .before .before .before .before .before .args in
-    let told = c .before .before .«open» in
-    picked-told (a .sheet) (a .out .now) (ap (λ (p : Pick). callBy p (a .first) (now (a .taken))) (sym (c .before .before .before .before .enum-told .given .1)))
-    (told .ensures .0) (told .ensures .1)
+    let a = c .before .before .before .before .before .before .before .before .before .args in
+    picked-told (now (a .sheet)) (picked-call (a .first) (now (a .taken)) (c .before .before .before .before .before .enum-told .given .1)) (c .before .before .«open» .ensures)
 
 same-length-2 : tie.Need-same-length-2
 same-length-2 c = search needs
 
 returns-2 : tie.Need-returns-2
 returns-2 c =
-    let a = c .before .before .before .before .before .before .before .before .args in
-    let told = c .before .before .add in
-    picked-told (a .sheet) (a .out .now) (ap (λ (p : Pick). callBy p (a .first) (now (a .taken))) (sym (c .before .before .before .before .enum-told2 .given .1)))
-    (told .ensures .0) (told .ensures .1)
+    let a = c .before .before .before .before .before .before .before .before .before .args in
+    picked-told (now (a .sheet)) (picked-call (a .first) (now (a .taken)) (c .before .before .before .before .before .enum-told2 .given .1)) (c .before .before .add .ensures)
 
 same-length-3 : tie.Need-same-length-3
 same-length-3 c = search needs
 
 returns-3 : tie.Need-returns-3
 returns-3 c =
-    let a = c .before .before .before .before .before .before .before .before .args in
-    let told = c .before .before .mark in
-    picked-told (a .sheet) (a .out .now) (ap (λ (p : Pick). callBy p (a .first) (now (a .taken))) (sym (c .before .before .before .before .enum-told3 .given .1)))
-    (told .ensures .0) (told .ensures .1)
+    let a = c .before .before .before .before .before .before .before .before .before .args in
+    picked-told (now (a .sheet)) (picked-call (a .first) (now (a .taken)) (c .before .before .before .before .before .enum-told3 .given .1)) (c .before .before .mark .ensures)
 
 same-length-4 : tie.Need-same-length-4
 same-length-4 c = search needs
 
 returns-4 : tie.Need-returns-4
 returns-4 c =
-    let a = c .before .before .before .before .before .before .before .before .args in
-    let told = c .before .before .strike in
-    picked-told (a .sheet) (a .out .now) (ap (λ (p : Pick). callBy p (a .first) (now (a .taken))) (sym (c .before .before .before .before .enum-told4 .given .1)))
-    (told .ensures .0) (told .ensures .1)
+    let a = c .before .before .before .before .before .before .before .before .before .args in
+    picked-told (now (a .sheet)) (picked-call (a .first) (now (a .taken)) (c .before .before .before .before .before .enum-told4 .given .1)) (c .before .before .strike .ensures)
 
 same-length-5 : tie.Need-same-length-5
 same-length-5 c = search needs
 
 returns-5 : tie.Need-returns-5
 returns-5 c =
-    let a = c .before .before .before .before .before .before .before .before .args in
-    let told = c .before .before .answer in
-    picked-told (a .sheet) (a .out .now) (ap (λ (p : Pick). callBy p (a .first) (now (a .taken))) (sym (c .before .before .before .before .enum-told5 .given .1)))
-    (told .ensures .0) (told .ensures .1)
+    let a = c .before .before .before .before .before .before .before .before .before .args in
+    picked-told (now (a .sheet)) (picked-call (a .first) (now (a .taken)) (c .before .before .before .before .before .enum-told5 .given .1)) (c .before .before .answer .ensures)
 
 same-length-6 : tie.Need-same-length-6
 same-length-6 c = search needs
 
 returns-6 : tie.Need-returns-6
 returns-6 c =
-    let a = c .before .before .before .before .before .before .before .before .args in
-    let told = c .before .before .meaningless in
-    picked-told (a .sheet) (a .out .now) (ap (λ (p : Pick). callBy p (a .first) (now (a .taken))) (sym (c .before .before .before .before .enum-told6 .given .1)))
-    (told .ensures .0) (told .ensures .1)
+    let a = c .before .before .before .before .before .before .before .before .before .args in
+    picked-told (now (a .sheet)) (picked-call (a .first) (now (a .taken)) (c .before .before .before .before .before .enum-told6 .given .1)) (c .before .before .meaningless .ensures)
 
 pub call-spec : {M : Type 1} → statement M
 call-spec =

@@ -19,9 +19,16 @@ same-length c = search needs
 returns : tie.Need-returns
 returns c =
     let a = c .before .before .before .before .before .before .before .args in
+    let s = now (a .sheet) in
     let line = c .before .before .marked-line in
-    told (a .sheet) (queries (marks (now (a .words)))) (a .out .now) refl
-    (marked-told (a .sheet) (now (a .words)) (c .before .before .before .before .mark .ensures)) (line .ensures .0) (line .ensures .1)
+    told s (queries (marks (now (a .words)))) (a .out .now) refl (marked-told s (now (a .words)) (c .before .before .before .before .mark .ensures)) (line .ensures .0)
+    (line .ensures .1)
 
 pub mark-spec : {M : Type 1} → statement M
-mark-spec = tie.close (tie.spec mark-requires marked-line-requires same-length returns)
+mark-spec =
+    tie.close
+    (tie.spec
+    mark-requires
+    marked-line-requires
+    same-length
+    returns)

@@ -1,6 +1,7 @@
 -- `printing::meaningless` meets its contract: the call is always refused with 1.
 use mathlib.Core.Path.{refl}
 use borrow.Author.Needs.{needs}
+use denote.Ref.{now}
 use Rattle.ledger.specs.Calls.{meaningless, queries}
 use Rattle.tape.proofs.Told.{told, meaningless-told}
 use Rattle.tape.proofs.printing.meaningless.Statement.{statement}
@@ -15,9 +16,14 @@ same-length c = search needs
 returns : tie.Need-returns
 returns c =
     let a = c .before .before .before .before .before .args in
+    let s = now (a .sheet) in
     let line = c .before .before .refused in
-    told (a .sheet) (queries (meaningless (a .word))) (a .out .now) refl (meaningless-told (a .sheet) (a .word)) (line .ensures .0)
-    (line .ensures .1)
+    told s (queries (meaningless (a .word))) (a .out .now) refl (meaningless-told s (a .word)) (line .ensures .0) (line .ensures .1)
 
 pub meaningless-spec : {M : Type 1} → statement M
-meaningless-spec = tie.close (tie.spec refused-requires same-length returns)
+meaningless-spec =
+    tie.close
+    (tie.spec
+    refused-requires
+    same-length
+    returns)

@@ -1,9 +1,7 @@
 -- `printing::open` meets its contract: an accepted opening prints what is then seen of the sheet, a refused one its refusal.
-use mathlib.Core.Path.{ap}
 use borrow.Author.Needs.{needs}
 use denote.Ref.{now}
 use Rattle.ledger.specs.Calls.{opens, enters}
-use Rattle.sheet.specs.declared.Turn.{Turn}
 use Rattle.tape.proofs.Told.{told, said-holds, said-refused, opened-told}
 use Rattle.tape.proofs.printing.open.Statement.{statement}
 use Rattle.tape.proofs.printing.open.Tie as tie
@@ -17,8 +15,8 @@ enum-told c = search needs
 seen-requires : tie.Need-seen-requires
 seen-requires c κs = search needs
 
-cast-t14 : tie.Need-cast-t14
-cast-t14 c = search needs
+cast-t12 : tie.Need-cast-t12
+cast-t12 c = search needs
 
 slice-aggregate-line : tie.Need-slice-aggregate-line
 slice-aggregate-line c = search needs
@@ -40,14 +38,14 @@ same-length c = search needs
 
 returns : tie.Need-returns
 returns c =
-    let a = c .before .before .before .before .before .before .before .before .before .before .before .before .before .before .args in
+    let a = c .before .before .before .before .before .before .before .before .before .before .before .before .before .before .before .args in
+    let s = now (a .sheet) in
     let call = opens (now (a .words)) in
-    let turn = c .before .before .before .before .before .before .before .before .before .before .before .«open» in
-    let none = said-holds (a .sheet) call (turn .ensures) (c .before .before .before .before .before .before .before .before .enum-told .given .1) in
-    let after = ap (λ (t : Turn). t .sheet) (turn .ensures) in
+    let said = c .before .before .before .before .before .before .before .before .before .before .before .«open» .ensures in
+    let accepted = said-holds s call (said .0) (c .before .before .before .before .before .before .before .before .before .enum-told .given .1) in
     let line = c .before .before .line in
-    told (a .sheet) (enters call) (a .out .now) after
-    (opened-told (a .sheet) (now (a .words)) none after (c .before .before .before .before .before .before .before .seen .ensures .0)) (line .ensures .0 .0) (line .ensures .1)
+    told s (enters call) (a .out .now) (said .1) (opened-told s (now (a .words)) accepted (said .1) (c .before .before .before .before .before .before .before .seen .ensures .0))
+    (line .ensures .0 .0) (line .ensures .1)
 
 same-length-2 : tie.Need-same-length-2
 same-length-2 c = search needs
@@ -55,12 +53,12 @@ same-length-2 c = search needs
 returns-2 : tie.Need-returns-2
 returns-2 c =
     let a = c .before .before .before .before .before .before .before .before .before .before .before .args in
+    let s = now (a .sheet) in
     let call = opens (now (a .words)) in
-    let turn = c .before .before .before .before .before .before .before .before .«open» in
-    let said = c .before .before .before .before .before .entered .given .1 in
+    let said = c .before .before .before .before .before .before .before .«open» .ensures in
     let line = c .before .before .refused in
-    told (a .sheet) (enters call) (a .out .now) (ap (λ (t : Turn). t .sheet) (turn .ensures))
-    (said-refused (a .sheet) call (turn .ensures) said) (line .ensures .0) (line .ensures .1)
+    told s (enters call) (a .out .now) (said .1) (said-refused s call (said .0) (c .before .before .before .before .before .entered .given .1)) (line .ensures .0)
+    (line .ensures .1)
 
 pub open-spec : {M : Type 1} → statement M
 open-spec =
@@ -69,7 +67,7 @@ open-spec =
     open-requires
     enum-told
     seen-requires
-    cast-t14
+    cast-t12
     slice-aggregate-line
     slice-aggregate-line-2
     line-requires

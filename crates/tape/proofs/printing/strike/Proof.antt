@@ -1,42 +1,50 @@
 -- `printing::strike` meets its contract: what the sheet's call says is told in one line.
 use mathlib.Core.Path.{refl, ap}
 use borrow.Author.Needs.{needs}
-use Rattle.ledger.specs.Calls.{strikesFromTape, enters}
-use Rattle.sheet.specs.declared.Turn.{Turn}
+use denote.Ref.{now}
+use Rattle.words.specs.declared.unpacking.Word.{Word}
+use Rattle.ledger.specs.Calls.{strikes, enters}
+use Rattle.sheet.proofs.Few.{held-few}
 use Rattle.tape.specs.Ascii.{bytesOf}
-use Rattle.tape.proofs.Told.{told, entered-told, held-few}
+use Rattle.tape.proofs.Told.{told, entered-told}
+use Rattle.tape.proofs.Picked.{picked-told}
 use Rattle.tape.proofs.printing.strike.Statement.{statement}
 use Rattle.tape.proofs.printing.strike.Tie as tie
 
-strike-from-tape-requires : tie.Need-strike-from-tape-requires
-strike-from-tape-requires c κs = search needs
+unpack-requires : tie.Need-unpack-requires
+unpack-requires c κs = search needs
+
+strike-requires : tie.Need-strike-requires
+strike-requires c κs = search needs
 
 slice-aggregate-entered-line : tie.Need-slice-aggregate-entered-line
 slice-aggregate-entered-line c = search needs
 
 entered-line-requires : tie.Need-entered-line-requires
 entered-line-requires c κs =
-    let turn = c .before .before .before .strike-from-tape in
-    let a = c .before .before .before .before .before .args in
-    (search needs, held-few (a .sheet) (strikesFromTape (a .word)) (turn .ensures), search needs)
+    let a = c .before .before .before .before .before .before .args in
+    (search needs, held-few (now (a .sheet)) (strikes (c .before .before .before .before .unpack .result .number)) (c .before .before .strike .ensures .0), search needs)
 
 same-length : tie.Need-same-length
 same-length c = search needs
 
 returns : tie.Need-returns
 returns c =
-    let a = c .before .before .before .before .before .before .before .before .args in
-    let call = enters (strikesFromTape (a .word)) in
-    let turn = c .before .before .before .before .before .before .strike-from-tape in
+    let a = c .before .before .before .before .before .before .before .before .before .args in
+    let s = now (a .sheet) in
+    let struck = c .before .before .before .before .before .before .before .unpack in
+    let call = strikes (struck .result .number) in
+    let said = c .before .before .before .before .before .strike .ensures in
     let line = c .before .before .entered-line in
-    told (a .sheet) call (a .out .now) (ap (λ (t : Turn). t .sheet) (turn .ensures))
-    (entered-told (a .sheet) (strikesFromTape (a .word)) (turn .ensures) (bytesOf "struck") refl) (line .ensures .0) (line .ensures .1)
+    picked-told s (ap (λ (w : Word). enters (strikes (w .number))) (struck .ensures))
+    (told s (enters call) (a .out .now) (said .1) (entered-told s call (said .0) (bytesOf "struck") refl) (line .ensures .0) (line .ensures .1))
 
 pub strike-spec : {M : Type 1} → statement M
 strike-spec =
     tie.close
     (tie.spec
-    strike-from-tape-requires
+    unpack-requires
+    strike-requires
     slice-aggregate-entered-line
     entered-line-requires
     same-length

@@ -7,8 +7,7 @@ use borrow.Author.Needs.{needs}
 use lib.ListN.{length}
 use Rattle.slices.proofs.Parts.{lent-length}
 use Rattle.slices.proofs.Over.{over-fits}
-use Rattle.sheet.specs.declared.Sheet.{Sheet}
-use Rattle.sheet.specs.Record.{ledgerOf}
+use Rattle.sheet.specs.Record.{Sheet, ledgerOf}
 use Rattle.tape.specs.Output.{leftOverLine, lines}
 use Rattle.tape.proofs.Remaining.{remaining, lines-remaining, remaining-end}
 use Rattle.tape.proofs.Runs.{step-bytes, step-fits, step-counts}
@@ -28,13 +27,13 @@ fresh-requires c κs = search needs
 
 loop-holds : tie.Need-loop-holds Inv-loop μ-loop
 loop-holds c =
-    let z = c .before .before in
+    let z = c .before .before .before in
     let tape = z .args .tape .now in (
       search needs,
       omega (
         arith,
         ap length (lines-remaining tape (z .pre)),
-        ap (λ (s : Sheet). length (remaining (ledgerOf s) tape)) (c .fresh .ensures),
+        ap (λ (s : Sheet). length (remaining (ledgerOf s) tape)) (c .before .fresh .ensures),
       ),
       search needs,
     )
@@ -48,14 +47,16 @@ next-requires c κs = search needs
 sub-rest : tie.Need-sub-rest Inv-loop μ-loop
 sub-rest c =
     let l = c .before .before .before .before .before .loop in
-    let step = c .before .before .next in
-    step-bytes (l .sheet) (l .rest .now) (omega arith) (step .ensures .0) .1
+    let step = c .before .next in
+    let rest = l .rest .now in
+    step-bytes (l .sheet) rest (omega arith) (step .ensures .0) .1
 
 part-rest-start : tie.Need-part-rest-start Inv-loop μ-loop
 part-rest-start c =
     let l = c .before .before .before .before .before .loop in
-    let step = c .before .before .next in
-    step-bytes (l .sheet) (l .rest .now) (omega arith) (step .ensures .0) .1
+    let step = c .before .next in
+    let rest = l .rest .now in
+    step-bytes (l .sheet) rest (omega arith) (step .ensures .0) .1
 
 part-rest-end : tie.Need-part-rest-end Inv-loop μ-loop
 part-rest-end c = search needs
@@ -63,27 +64,27 @@ part-rest-end c = search needs
 add-written : tie.Need-add-written Inv-loop μ-loop
 add-written c =
     let l = c .before .before .before .before .before .before .before .loop in
-    let step = c .before .before .before .before .next in
+    let step = c .before .before .before .next in
     let rest = l .rest .now in
-    let fits = step-fits (l .sheet) rest (omega arith) (step .ensures .0) (l .out) (step .ensures .1) in
+    let fits = step-fits (l .sheet) rest (omega arith) (step .ensures .0) (l .out) (step .ensures .1 .1) in
     let size : length (step .last .1 .1 .0) ≡ 4096 = search needs in
     omega (arith, l .inv .2)
 
 loop-less : tie.Need-loop-less Inv-loop μ-loop
 loop-less c =
     let l = c .before .before .before .before .before .before .before .loop in
-    let step = c .before .before .before .before .next in
+    let step = c .before .before .before .next in
     let rest = l .rest .now in
     omega (arith, step-bytes (l .sheet) rest (omega arith) (step .ensures .0) .0, lent-length (step .result .used) rest)
 
 loop-again : tie.Need-loop-again Inv-loop μ-loop
 loop-again c =
     let l = c .before .before .before .before .before .before .before .loop in
-    let step = c .before .before .before .before .next in
+    let step = c .before .before .before .next in
     let rest = l .rest .now in
-    let fits = step-fits (l .sheet) rest (omega arith) (step .ensures .0) (l .out) (step .ensures .1) in
+    let fits = step-fits (l .sheet) rest (omega arith) (step .ensures .0) (l .out) (step .ensures .1 .1) in
     let size : length (step .last .1 .1 .0) ≡ 4096 = search needs in
-    let counts = step-counts (l .sheet) rest (omega arith) (step .ensures .0) in (
+    let counts = step-counts (l .sheet) rest (omega arith) (step .ensures .0) (step .ensures .1 .0) in (
       size,
       omega (arith, l .inv .1),
       omega (arith, l .inv .2, step-bytes (l .sheet) rest (omega arith) (step .ensures .0), lent-length (step .result .used) rest),

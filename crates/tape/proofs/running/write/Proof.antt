@@ -36,8 +36,11 @@ fresh-requires c κs = search needs
 
 loop-holds : tie.Need-loop-holds Inv-loop μ-loop
 loop-holds c =
-    let z = c .before .before .before in
-    (search needs, search needs, written-none (z .args .tape .now) (z .args .out .now) (z .pre .0) (c .fresh .ensures))
+    let z = c .before .before .before .before in (
+      search needs,
+      search needs,
+      written-none (z .args .tape .now) (z .args .out .now) (z .pre .0) (c .before .fresh .ensures),
+    )
 
 slice-aggregate-next : tie.Need-slice-aggregate-next Inv-loop μ-loop
 slice-aggregate-next c = search needs
@@ -48,12 +51,16 @@ next-requires c κs = search needs
 sub-rest : tie.Need-sub-rest Inv-loop μ-loop
 sub-rest c =
     let l = c .before .before .before .before .before .loop in
-    step-bytes (l .sheet) (l .rest .now) (omega arith) (c .before .before .next .ensures .0) .1
+    let step = c .before .next in
+    let rest = l .rest .now in
+    step-bytes (l .sheet) rest (omega arith) (step .ensures .0) .1
 
 part-rest-start : tie.Need-part-rest-start Inv-loop μ-loop
 part-rest-start c =
     let l = c .before .before .before .before .before .loop in
-    step-bytes (l .sheet) (l .rest .now) (omega arith) (c .before .before .next .ensures .0) .1
+    let step = c .before .next in
+    let rest = l .rest .now in
+    step-bytes (l .sheet) rest (omega arith) (step .ensures .0) .1
 
 part-rest-end : tie.Need-part-rest-end Inv-loop μ-loop
 part-rest-end c = search needs
@@ -61,25 +68,27 @@ part-rest-end c = search needs
 array-share-prefix-told : tie.Need-array-share-prefix-told Inv-loop μ-loop
 array-share-prefix-told c =
     let l = c .before .before .before .before .before .before .loop in
-    let step = c .before .before .before .next in
-    step-fits (l .sheet) (l .rest .now) (omega arith) (step .ensures .0) (l .told) (step .ensures .1)
+    let step = c .before .before .next in
+    let rest = l .rest .now in
+    step-fits (l .sheet) rest (omega arith) (step .ensures .0) (l .told) (step .ensures .1 .1)
 
 slice-aggregate-copy-bytes : tie.Need-slice-aggregate-copy-bytes Inv-loop μ-loop
 slice-aggregate-copy-bytes c =
     let l = c .before .before .before .before .before .before .before .loop in
-    let step = c .before .before .before .before .next in
+    let step = c .before .before .before .next in
+    let rest = l .rest .now in
     sym (length-take-le (step .result .written) (step .last .1 .1 .0)
-    (step-fits (l .sheet) (l .rest .now) (omega arith) (step .ensures .0) (l .told) (step .ensures .1)))
+    (step-fits (l .sheet) rest (omega arith) (step .ensures .0) (l .told) (step .ensures .1 .1)))
 
 sub-copy-bytes : tie.Need-sub-copy-bytes Inv-loop μ-loop
 sub-copy-bytes c =
     let l = c .before .before .before .before .before .before .before .loop in
-    omega (arith, room-behind (l .inv .2) (c .before .before .before .before .before .before .before .before .before .before .before .pre .1) (l .inv .1))
+    omega (arith, room-behind (l .inv .2) (c .before .before .before .before .before .before .before .before .before .before .before .before .pre .1) (l .inv .1))
 
 part-copy-bytes-start : tie.Need-part-copy-bytes-start Inv-loop μ-loop
 part-copy-bytes-start c =
     let l = c .before .before .before .before .before .before .before .loop in
-    omega (arith, room-behind (l .inv .2) (c .before .before .before .before .before .before .before .before .before .before .before .pre .1) (l .inv .1))
+    omega (arith, room-behind (l .inv .2) (c .before .before .before .before .before .before .before .before .before .before .before .before .pre .1) (l .inv .1))
 
 part-copy-bytes-end : tie.Need-part-copy-bytes-end Inv-loop μ-loop
 part-copy-bytes-end c = search needs
@@ -87,35 +96,36 @@ part-copy-bytes-end c = search needs
 copy-bytes-requires : tie.Need-copy-bytes-requires Inv-loop μ-loop
 copy-bytes-requires c κs =
     let l = c .before .before .before .before .before .before .before .before .loop in
-    let step = c .before .before .before .before .before .next in
+    let step = c .before .before .before .before .next in
+    let rest = l .rest .now in
     taken-fits (l .at) (step .result .written) (step .last .1 .1 .0) (l .out)
-    (room-step (l .inv .2) (c .before .before .before .before .before .before .before .before .before .before .before .before .pre .1) (l .inv .1) (omega arith) (step .ensures .0))
+    (room-step (l .inv .2) (c .before .before .before .before .before .before .before .before .before .before .before .before .before .pre .1) (l .inv .1) (omega arith) (step .ensures .0))
 
 add-at : tie.Need-add-at Inv-loop μ-loop
 add-at c =
     let l = c .before .before .before .before .before .before .before .before .before .before .before .loop in
-    let z = c .before .before .before .before .before .before .before .before .before .before .before .before .before .before .before in
-    let fits = room-step (l .inv .2) (z .pre .1) (l .inv .1) (omega arith) (c .before .before .before .before .before .before .before .before .next .ensures .0) in
+    let z = c .before .before .before .before .before .before .before .before .before .before .before .before .before .before .before .before in
+    let fits = room-step (l .inv .2) (z .pre .1) (l .inv .1) (omega arith) (c .before .before .before .before .before .before .before .next .ensures .0) in
     omega (arith, z .pre .1, l .inv .1)
 
 loop-less : tie.Need-loop-less Inv-loop μ-loop
 loop-less c =
     let l = c .before .before .before .before .before .before .before .before .before .before .before .loop in
-    let step = c .before .before .before .before .before .before .before .before .next in
+    let step = c .before .before .before .before .before .before .before .next in
     let rest = l .rest .now in
     omega (arith, step-bytes (l .sheet) rest (omega arith) (step .ensures .0) .0, lent-length (step .result .used) rest)
 
 loop-again : tie.Need-loop-again Inv-loop μ-loop
 loop-again c =
     let l = c .before .before .before .before .before .before .before .before .before .before .before .loop in
-    let step = c .before .before .before .before .before .before .before .before .next in
+    let step = c .before .before .before .before .before .before .before .next in
     let rest = l .rest .now in
     let size : length (step .last .1 .1 .0) ≡ 4096 = search needs in (
       size,
       search needs,
-      written-more (l .inv .2) (omega arith) (step .ensures .0)
+      written-more (l .inv .2) (omega arith) (step .ensures .0) (step .ensures .1 .0)
           (copied (step .result .written) (linesOn (l .sheet) (firstOn (l .sheet) rest)) (lent (l .at) (l .out)) (l .told)
-          (step .ensures .1) (step-written (l .sheet) rest (omega arith) (step .ensures .0)) (c .before .before .copy-bytes .ensures)),
+          (step .ensures .1 .1) (step-written (l .sheet) rest (omega arith) (step .ensures .0)) (c .before .before .copy-bytes .ensures)),
     )
 
 slice-aggregate-left-over : tie.Need-slice-aggregate-left-over Inv-loop μ-loop
@@ -140,12 +150,12 @@ slice-aggregate-copy-bytes-2 c =
 sub-copy-bytes-2 : tie.Need-sub-copy-bytes-2 Inv-loop μ-loop
 sub-copy-bytes-2 c =
     let l = c .before .before .before .before .before .loop in
-    omega (arith, room-behind (l .inv .2) (c .before .before .before .before .before .before .before .before .before .pre .1) (l .inv .1))
+    omega (arith, room-behind (l .inv .2) (c .before .before .before .before .before .before .before .before .before .before .pre .1) (l .inv .1))
 
 part-copy-bytes-start-2 : tie.Need-part-copy-bytes-start-2 Inv-loop μ-loop
 part-copy-bytes-start-2 c =
     let l = c .before .before .before .before .before .loop in
-    omega (arith, room-behind (l .inv .2) (c .before .before .before .before .before .before .before .before .before .pre .1) (l .inv .1))
+    omega (arith, room-behind (l .inv .2) (c .before .before .before .before .before .before .before .before .before .before .pre .1) (l .inv .1))
 
 part-copy-bytes-end-2 : tie.Need-part-copy-bytes-end-2 Inv-loop μ-loop
 part-copy-bytes-end-2 c = search needs
@@ -154,7 +164,7 @@ copy-bytes-requires-2 : tie.Need-copy-bytes-requires-2 Inv-loop μ-loop
 copy-bytes-requires-2 c κs =
     let l = c .before .before .before .before .before .before .loop in
     let last = c .before .before .before .left-over in
-    let fits = room-last (l .inv .2) (c .before .before .before .before .before .before .before .before .before .before .pre .1) (l .inv .1) (omega arith) in
+    let fits = room-last (l .inv .2) (c .before .before .before .before .before .before .before .before .before .before .before .pre .1) (l .inv .1) (omega arith) in
     taken-fits (l .at) (last .result) (last .last .1 .0) (l .out) (omega (arith, last .ensures .0))
 
 same-length : tie.Need-same-length Inv-loop μ-loop

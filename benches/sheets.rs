@@ -1,0 +1,206 @@
+//! One call on a sheet, and what it takes to get the same from milebadger_tape, which keeps no sheet: a tape that opens one, adds
+//! all its lines and then asks. The script ./bench runs it:
+//!     sheets list                 the names of the cases, each with its call's name in front
+//!     sheets time HOW CASE        microseconds per call, or per tape: the median of 9 runs; HOW is sheet or tape
+//!     sheets run HOW CASE COUNT   that many calls, or tapes, for an instruction counter
+#[path = "../tests/random.rs"]
+mod random;
+
+use random::Random;
+use std::time::{Duration, Instant};
+
+/// The header's milebadger_sheet.
+#[repr(C)]
+#[derive(Clone, Copy)]
+struct Sheet {
+    numbers: [u32; 291],
+}
+
+extern "C" {
+    fn milebadger_open(sheet: *mut Sheet, words: *const u32, words_len: usize) -> i64;
+    fn milebadger_add(sheet: *mut Sheet, words: *const u32, words_len: usize) -> i64;
+    fn milebadger_answer(sheet: *const Sheet, out: *mut u32, out_len: usize) -> i64;
+    fn milebadger_mark(sheet: *const Sheet, words: *const u32, words_len: usize) -> i64;
+    fn milebadger_tape(tape: *const u8, tape_len: usize, out: *mut u8, out_len: usize) -> i64;
+}
+
+#[derive(Clone, Copy, PartialEq)]
+enum Call {
+    /// The last of n lines, to a sheet that holds the others.
+    Add,
+    Answer,
+    /// Of the block that the answer writes.
+    Mark,
+}
+
+#[derive(Clone, Copy)]
+struct Case {
+    call: Call,
+    m: u32,
+    n: usize,
+}
+
+impl Case {
+    fn name(&self) -> String {
+        let call = match self.call {
+            Call::Add => "add",
+            Call::Answer => "answer",
+            Call::Mark => "mark",
+        };
+        format!("{call}-{n}x{n}-mod-{m}", n = self.n, m = self.m)
+    }
+}
+
+fn cases() -> Vec<Case> {
+    let mut cases = vec![];
+    for call in [Call::Add, Call::Answer, Call::Mark] {
+        for m in [12, 65_521] {
+            cases.extend([2, 4, 8, 16].map(|n| Case { call, m, n }));
+        }
+    }
+    cases
+}
+
+fn word(kind: u32, number: u32) -> u32 {
+    kind << 28 | number
+}
+
+/// A line of random coefficients with the right side that this solution gives it, as words.
+fn line(m: u32, solution: &[u64], random: &mut Random) -> Vec<u32> {
+    let coefficients: Vec<u64> = solution.iter().map(|_| random.below(m as u64)).collect();
+    let right = coefficients.iter().zip(solution).map(|(a, x)| a * x).sum::<u64>() % m as u64;
+    coefficients.iter().map(|&a| word(3, a as u32)).chain([word(4, right as u32)]).collect()
+}
+
+/// A sheet before the call, the words of the call, and the tape that comes to the same.
+struct Work {
+    sheet: Sheet,
+    words: Vec<u32>,
+    tape: Vec<u8>,
+}
+
+impl Work {
+    /// Its calls on the way are accepted.
+    fn new(case: Case, random: &mut Random) -> Work {
+        let solution: Vec<u64> = (0..case.n).map(|_| random.below(case.m as u64)).collect();
+        let opening = vec![word(1, case.m), word(2, case.n as u32)];
+        let lines: Vec<Vec<u32>> = (0..case.n).map(|_| line(case.m, &solution, random)).collect();
+        let (mut sheet, mut block) = (Sheet { numbers: [0; 291] }, vec![0; 273]);
+        assert_eq!(unsafe { milebadger_open(&mut sheet, opening.as_ptr(), 2) }, 0);
+        let (last, others) = lines.split_last().unwrap();
+        for (held, line) in others.iter().enumerate() {
+            assert_eq!(unsafe { milebadger_add(&mut sheet, line.as_ptr(), line.len()) }, held as i64 + 1);
+        }
+        let mut full = sheet;
+        assert_eq!(unsafe { milebadger_add(&mut full, last.as_ptr(), last.len()) }, case.n as i64);
+        let wrote = unsafe { milebadger_answer(&full, block.as_mut_ptr(), block.len()) };
+        block.truncate(usize::try_from(wrote).expect("a refusal"));
+        let tape = [opening, lines.concat()].concat();
+        let (sheet, words, asked) = match case.call {
+            Call::Add => (sheet, last.clone(), vec![]),
+            Call::Answer => (full, vec![], vec![word(9, 0)]),
+            Call::Mark => (full, block.clone(), block),
+        };
+        Work { sheet, words, tape: [tape, asked].concat().iter().flat_map(|word| word.to_le_bytes()).collect() }
+    }
+}
+
+/// 64 pieces of work of a case, so that no branch is learnt by heart, and the memory that is lent for them.
+struct Calls {
+    case: Case,
+    tapes: bool,
+    works: Vec<Work>,
+    sheets: Vec<Sheet>,
+    block: Vec<u32>,
+    lines: Vec<u8>,
+}
+
+impl Calls {
+    fn new(case: Case, tapes: bool) -> Calls {
+        let mut random = Random::new();
+        let works: Vec<Work> = (0..64).map(|_| Work::new(case, &mut random)).collect();
+        let mut calls = Calls { case, tapes, works, sheets: vec![], block: vec![0; 273], lines: vec![0; 4_096] };
+        calls.put_back();
+        for i in 0..64 {
+            let result = calls.call(i);
+            assert!(calls.accepted(result), "{}: result {result}", case.name());
+        }
+        calls
+    }
+
+    /// Whether this is the result of a call that was accepted, or of a tape whose calls all were.
+    fn accepted(&self, result: i64) -> bool {
+        let lines = if self.tapes { std::str::from_utf8(&self.lines[..result as usize]).unwrap() } else { "" };
+        match (self.tapes, self.case.call) {
+            (false, Call::Add) => result == self.case.n as i64,
+            (false, Call::Answer) => result > self.case.n as i64,
+            (false, Call::Mark) => result == 1,
+            (true, Call::Add) => lines.ends_with(&format!("added {}\n", self.case.n)),
+            (true, Call::Answer) => lines.contains("\nfrom "),
+            (true, Call::Mark) => lines.ends_with("\npass\n"),
+        }
+    }
+
+    /// The sheets are as before the calls.
+    fn put_back(&mut self) {
+        self.sheets = self.works.iter().map(|work| work.sheet).collect();
+    }
+
+    fn call(&mut self, i: usize) -> i64 {
+        let (work, sheet) = (&self.works[i], &mut self.sheets[i]);
+        let (words, len) = (work.words.as_ptr(), work.words.len());
+        unsafe {
+            match self.case.call {
+                _ if self.tapes => {
+                    milebadger_tape(work.tape.as_ptr(), work.tape.len(), self.lines.as_mut_ptr(), self.lines.len())
+                }
+                Call::Add => milebadger_add(sheet, words, len),
+                Call::Answer => milebadger_answer(sheet, self.block.as_mut_ptr(), self.block.len()),
+                Call::Mark => milebadger_mark(sheet, words, len),
+            }
+        }
+    }
+
+    /// Microseconds for each call in so many rounds of 64. The sheets are put back while the clock stands.
+    fn time(&mut self, rounds: usize) -> f64 {
+        let (mut spent, mut results) = (Duration::ZERO, 0);
+        for _ in 0..rounds {
+            self.put_back();
+            let start = Instant::now();
+            for i in 0..64 {
+                results += self.call(i);
+            }
+            spent += start.elapsed();
+        }
+        assert!(results > 0);
+        spent.as_secs_f64() * 1e6 / (64 * rounds) as f64
+    }
+}
+
+fn main() {
+    let arguments: Vec<String> = std::env::args().skip(1).collect();
+    let calls = |how: &str, name: &str| {
+        assert!(how == "sheet" || how == "tape", "{how} is neither sheet nor tape");
+        Calls::new(cases().into_iter().find(|case| case.name() == name).expect("no such case"), how == "tape")
+    };
+    match arguments.iter().map(String::as_str).collect::<Vec<_>>()[..] {
+        ["list"] => cases().iter().for_each(|case| println!("{}", case.name())),
+        ["time", how, name] => {
+            let mut calls = calls(how, name);
+            let rounds = (20_000.0 / (64.0 * calls.time(1))) as usize + 1;
+            let mut runs: Vec<f64> = (0..9).map(|_| calls.time(rounds)).collect();
+            runs.sort_by(f64::total_cmp);
+            println!("{:.3}", runs[4]);
+        }
+        ["run", how, name, count] => {
+            let (mut calls, count) = (calls(how, name), count.parse().expect("no count"));
+            for i in 0..count {
+                if i % 64 == 0 {
+                    calls.put_back();
+                }
+                calls.call(i % 64);
+            }
+        }
+        _ => panic!("sheets list, sheets time HOW CASE, or sheets run HOW CASE COUNT"),
+    }
+}

@@ -1,0 +1,77 @@
+// The calls on a sheet that lies in the C program's own memory. They work there, and nothing is copied. Where a call is refused, the
+// result is minus the question's number.
+ghost use mathlib.Core.Path.{_≡_};
+ghost use Rattle.ledger.specs.Calls.{opens, adds, strikes};
+ghost use Rattle.sheet.specs.Record.{ledgerOf};
+ghost use Rattle.sheet.specs.Calls.{enteredOf, sheetAfter, answeredOf, bufferAfter, markedOf};
+ghost use Rattle.milebadger.specs.Calls.{version, enteredResult, answeredResult, markedResult};
+use crate::replying::entered_result;
+use crate::replying::mark_result;
+use crate::replying::refuse;
+use sheet::Sheet;
+use sheet::answering::Answered;
+use sheet::marking::Marked;
+
+const VERSION: u32 = 10000;
+
+#[no_mangle]
+pub extern "C" fn milebadger_version() -> u32
+    ensures { λ r. ⌜ r ≡ version ⌝ }
+{
+    VERSION
+}
+
+// Opens the sheet: 0.
+#[no_mangle]
+pub extern "C" fn milebadger_open(sheet: &mut [u32; Sheet::SIZE], words: &[u32]) -> i64
+    ensures { λ r. ⌜ r ≡ enteredResult (enteredOf (ledgerOf (now (sheet .entry))) (opens (now (words .entry)))) ⌝ }
+    ensures { λ _. ⌜ now (sheet .exit) ≡ sheetAfter (now (sheet .entry)) (opens (now (words .entry))) ⌝ }
+{
+    let entered = Sheet::open(sheet, words);
+    entered_result(entered)
+}
+
+// Adds an equation: how many are then held.
+#[no_mangle]
+pub extern "C" fn milebadger_add(sheet: &mut [u32; Sheet::SIZE], words: &[u32]) -> i64
+    ensures { λ r. ⌜ r ≡ enteredResult (enteredOf (ledgerOf (now (sheet .entry))) (adds (now (words .entry)))) ⌝ }
+    ensures { λ _. ⌜ now (sheet .exit) ≡ sheetAfter (now (sheet .entry)) (adds (now (words .entry))) ⌝ }
+{
+    let entered = Sheet::add(sheet, words);
+    entered_result(entered)
+}
+
+// Strikes the last equation: how many are then held. The place is the number of a strike word, which is 0.
+#[no_mangle]
+pub extern "C" fn milebadger_strike(sheet: &mut [u32; Sheet::SIZE], place: u32) -> i64
+    ensures { λ r. ⌜ r ≡ enteredResult (enteredOf (ledgerOf (now (sheet .entry))) (strikes place)) ⌝ }
+    ensures { λ _. ⌜ now (sheet .exit) ≡ sheetAfter (now (sheet .entry)) (strikes place) ⌝ }
+{
+    let entered = Sheet::strike(sheet, place);
+    entered_result(entered)
+}
+
+// Writes the answer block, in words: how many they are.
+#[no_mangle]
+pub extern "C" fn milebadger_answer(sheet: &[u32; Sheet::SIZE], out: &mut [u32]) -> i64
+    ensures { λ r. ⌜ r ≡ answeredResult (answeredOf (ledgerOf (now (sheet .entry))) (now (out .entry))) ⌝ }
+    ensures { λ _. ⌜ now (out .exit) ≡ bufferAfter (ledgerOf (now (sheet .entry))) (now (out .entry)) ⌝ }
+{
+    let answered = Sheet::answer(sheet, out);
+    match answered {
+        Answered::Wrote(words) => words as i64,
+        Answered::Refused(number) => refuse(number),
+    }
+}
+
+// Marks a claim: 1 for a pass, 0 for a fail.
+#[no_mangle]
+pub extern "C" fn milebadger_mark(sheet: &[u32; Sheet::SIZE], words: &[u32]) -> i64
+    ensures { λ r. ⌜ r ≡ markedResult (markedOf (ledgerOf (now (sheet .entry))) (now (words .entry))) ⌝ }
+{
+    let marked = Sheet::mark(sheet, words);
+    match marked {
+        Marked::Gets(mark) => mark_result(mark),
+        Marked::Refused(number) => refuse(number),
+    }
+}

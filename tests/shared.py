@@ -1,0 +1,100 @@
+"""The package's shared library, called from Python: a fresh sheet, each call on it, refusals that keep every byte, the version.
+
+usage: tests/shared.py LIBRARY HEADER
+"""
+import ctypes
+import re
+import sys
+
+Words = ctypes.POINTER(ctypes.c_uint32)
+
+
+class Sheet(ctypes.Structure):
+    _fields_ = [("numbers", ctypes.c_uint32 * 291)]
+
+
+library = ctypes.CDLL(sys.argv[1])
+library.milebadger_version.restype = ctypes.c_uint32
+for name, arguments in {
+    "open": [ctypes.POINTER(Sheet), Words, ctypes.c_size_t],
+    "add": [ctypes.POINTER(Sheet), Words, ctypes.c_size_t],
+    "strike": [ctypes.POINTER(Sheet), ctypes.c_uint32],
+    "answer": [ctypes.POINTER(Sheet), Words, ctypes.c_size_t],
+    "mark": [ctypes.POINTER(Sheet), Words, ctypes.c_size_t],
+}.items():
+    function = getattr(library, "milebadger_" + name)
+    function.argtypes = arguments
+    function.restype = ctypes.c_int64
+
+MODULUS, UNKNOWNS, COEFFICIENT, RIGHT, HEAD, ENTRY, MULTIPLIER = range(1, 8)
+
+
+def words(*pairs):
+    """Memory with a word for each kind and number."""
+    return (ctypes.c_uint32 * len(pairs))(*(kind << 28 | number for kind, number in pairs))
+
+
+def equation(*numbers):
+    return words(*((COEFFICIENT, a) for a in numbers[:-1]), (RIGHT, numbers[-1]))
+
+
+def block(*numbers, kind=ENTRY):
+    return words((HEAD, numbers[0]), *((kind, x) for x in numbers[1:]))
+
+
+def same(seen, expected):
+    if seen != expected:
+        sys.exit(f"shared.py: {seen} in place of {expected}")
+
+
+def call(name, *arguments):
+    return getattr(library, "milebadger_" + name)(ctypes.byref(sheet), *arguments)
+
+
+def lend(name, memory):
+    return call(name, memory, len(memory))
+
+
+def refused(result, name, *arguments):
+    """The call is refused so, and sheet and memory keep every byte."""
+    before = bytes(sheet), [bytes(x) for x in arguments if isinstance(x, ctypes.Array)]
+    same(call(name, *arguments), result)
+    same((bytes(sheet), [bytes(x) for x in arguments if isinstance(x, ctypes.Array)]), before)
+
+
+with open(sys.argv[2], encoding="utf-8") as header:
+    version = re.search(r"^#define MILEBADGER_VERSION (\d+)$", header.read(), re.MULTILINE)[1]
+same(library.milebadger_version(), int(version))
+
+sheet = Sheet()
+out = (ctypes.c_uint32 * 273)(*([0xC0DEC0DE] * 273))
+refused(-4, "answer", out, 273)
+refused(-4, "strike", 0)
+refused(-2, "open", words((MODULUS, 65536), (UNKNOWNS, 2)), 2)
+same(lend("open", words((MODULUS, 4), (UNKNOWNS, 2))), 0)
+refused(-7, "strike", 0)
+same(lend("add", equation(1, 2, 0)), 1)
+refused(-6, "add", equation(1, 4, 0), 3)
+refused(-1, "add", equation(1, 0), 2)
+refused(-1, "strike", 1)
+refused(-8, "answer", out, 6)
+same(lend("answer", out), 7)
+same(out[:7], block(3, 0, 0, 2, 1, 0, 2)[:])
+same(out[7:], [0xC0DEC0DE] * 266)
+same(call("mark", out, 7), 1)
+same(lend("mark", block(2, 0, 0, 2, 3)), 1)
+same(lend("mark", block(2, 0, 0, 0, 2)), 0)
+refused(-1, "mark", block(2, 0, 0, 0), 4)
+
+# A copy goes its own way: 2x = 1 contradicts there, and is struck again.
+first = Sheet.from_buffer_copy(sheet)
+same(lend("add", equation(2, 0, 1)), 2)
+same(lend("answer", out), 3)
+same((out[0], out[1] >> 28, out[2] >> 28), (HEAD << 28, MULTIPLIER, MULTIPLIER))
+c, d = (word & 0xFFFFFFF for word in out[1:3])
+same(((c + 2 * d) % 4, 2 * c % 4, d % 4 == 0), (0, 0, False))
+same(lend("mark", words((HEAD, 0))), 1)
+same(call("strike", 0), 1)
+same(lend("mark", words((HEAD, 0))), 0)
+sheet = first
+same(lend("mark", block(2, 0, 0, 2, 3)), 1)

@@ -1,0 +1,167 @@
+//! The calls on a sheet as Rust sees them. The sheet, the words and the buffer lie in memory with a guard on both sides, and after
+//! each call everything that it may not write is compared with what it was.
+#![allow(dead_code)]
+
+use crate::face::{GUARD, GUARDS};
+
+/// How many numbers a sheet has.
+pub const NUMBERS: usize = 291;
+
+/// The header's milebadger_sheet.
+#[repr(C)]
+pub struct Sheet {
+    numbers: [u32; NUMBERS],
+}
+
+extern "C" {
+    fn milebadger_open(sheet: *mut Sheet, words: *const u32, words_len: usize) -> i64;
+    fn milebadger_add(sheet: *mut Sheet, words: *const u32, words_len: usize) -> i64;
+    fn milebadger_strike(sheet: *mut Sheet, place: u32) -> i64;
+    fn milebadger_answer(sheet: *const Sheet, out: *mut u32, out_len: usize) -> i64;
+    fn milebadger_mark(sheet: *const Sheet, words: *const u32, words_len: usize) -> i64;
+}
+
+/// A call on the sheet with its arguments.
+#[derive(Clone, Debug, PartialEq)]
+pub enum Act {
+    Open(Vec<u32>),
+    Add(Vec<u32>),
+    /// At this place.
+    Strike(u32),
+    /// Into a buffer with this content.
+    Answer(Vec<u32>),
+    Mark(Vec<u32>),
+    /// The words that the last accepted answer wrote, marked where they lie.
+    MarkBlock,
+}
+
+impl Act {
+    fn changes_the_sheet(&self) -> bool {
+        matches!(self, Act::Open(_) | Act::Add(_) | Act::Strike(_))
+    }
+}
+
+/// What a call gave back.
+#[derive(Clone, Copy, Debug, PartialEq)]
+pub enum Outcome {
+    Refused(u32),
+    Holds(usize),
+    Wrote(usize),
+    Pass,
+    Fail,
+}
+
+/// An outcome, and the whole buffer after an answer.
+#[derive(Clone, Debug, PartialEq)]
+pub struct Reply {
+    pub outcome: Outcome,
+    pub buffer: Vec<u32>,
+}
+
+/// What the result says, where the call may have it at all.
+fn read(act: &Act, result: i64) -> Option<Outcome> {
+    match (act, result) {
+        (_, -8..=-1) => Some(Outcome::Refused(-result as u32)),
+        (Act::Open(_), 0) => Some(Outcome::Holds(0)),
+        (Act::Add(_) | Act::Strike(_), 0..=16) => Some(Outcome::Holds(result as usize)),
+        (Act::Answer(buffer), 1..) if result <= buffer.len() as i64 => Some(Outcome::Wrote(result as usize)),
+        (Act::Mark(_) | Act::MarkBlock, 1) => Some(Outcome::Pass),
+        (Act::Mark(_) | Act::MarkBlock, 0) => Some(Outcome::Fail),
+        _ => None,
+    }
+}
+
+/// Numbers with a guard on both sides.
+#[derive(Clone, PartialEq)]
+struct Lent(Vec<u32>);
+
+impl Lent {
+    fn new(numbers: &[u32]) -> Lent {
+        Lent([&[GUARD; GUARDS], numbers, &[GUARD; GUARDS]].concat())
+    }
+
+    fn numbers(&self) -> &[u32] {
+        &self.0[GUARDS..self.0.len() - GUARDS]
+    }
+
+    fn start(&mut self) -> *mut u32 {
+        self.0[GUARDS..].as_mut_ptr()
+    }
+
+    fn guarded(&self) -> bool {
+        *self == Lent::new(self.numbers())
+    }
+}
+
+/// A sheet that lies on a desk, beside the buffer of the last accepted answer.
+pub struct Desk {
+    sheet: Lent,
+    buffer: Lent,
+    wrote: usize,
+}
+
+impl Desk {
+    /// "Zeroed memory is a fresh, unopened sheet."
+    pub fn fresh() -> Desk {
+        Desk::with(&[0; NUMBERS])
+    }
+
+    /// A sheet with these numbers.
+    pub fn with(numbers: &[u32]) -> Desk {
+        assert_eq!(numbers.len(), NUMBERS);
+        Desk { sheet: Lent::new(numbers), buffer: Lent::new(&[]), wrote: 0 }
+    }
+
+    pub fn numbers(&self) -> &[u32] {
+        self.sheet.numbers()
+    }
+
+    /// The words that the last accepted answer wrote.
+    pub fn block(&self) -> &[u32] {
+        &self.buffer.numbers()[..self.wrote]
+    }
+
+    /// Makes the call, or says what is wrong with its result or with the memory after it.
+    pub fn act(&mut self, act: &Act) -> Result<Reply, String> {
+        let before = self.sheet.clone();
+        let mut lent = match act {
+            Act::Open(words) | Act::Add(words) | Act::Mark(words) | Act::Answer(words) => Lent::new(words),
+            Act::Strike(_) => Lent::new(&[]),
+            Act::MarkBlock => std::mem::replace(&mut self.buffer, Lent::new(&[])),
+        };
+        let old = lent.clone();
+        let len = if *act == Act::MarkBlock { self.wrote } else { old.numbers().len() };
+        let result = call(act, self.sheet.start() as *mut Sheet, lent.start(), len);
+        let outcome = read(act, result).ok_or(format!("no call has the result {result}"))?;
+        let (refused, answers) = (matches!(outcome, Outcome::Refused(_)), matches!(act, Act::Answer(_)));
+        let faults = [
+            ("written beside the sheet", !self.sheet.guarded()),
+            ("the sheet was written", self.sheet != before && (refused || !act.changes_the_sheet())),
+            ("written beside the words or the buffer", !lent.guarded()),
+            ("the words or the buffer were written", lent != old && (refused || !answers)),
+        ];
+        if let Some((fault, _)) = faults.iter().find(|(_, found)| *found) {
+            return Err(format!("{fault} at {outcome:?}"));
+        }
+        let buffer = if answers { lent.numbers().to_vec() } else { vec![] };
+        match (act, outcome) {
+            (Act::Answer(_), Outcome::Wrote(length)) => (self.buffer, self.wrote) = (lent, length),
+            (Act::MarkBlock, _) => self.buffer = lent,
+            _ => {}
+        }
+        Ok(Reply { outcome, buffer })
+    }
+}
+
+/// The call itself, with words or a buffer of this length at `memory`.
+fn call(act: &Act, sheet: *mut Sheet, memory: *mut u32, len: usize) -> i64 {
+    unsafe {
+        match act {
+            Act::Open(_) => milebadger_open(sheet, memory, len),
+            Act::Add(_) => milebadger_add(sheet, memory, len),
+            Act::Strike(place) => milebadger_strike(sheet, *place),
+            Act::Answer(_) => milebadger_answer(sheet, memory, len),
+            Act::Mark(_) | Act::MarkBlock => milebadger_mark(sheet, memory, len),
+        }
+    }
+}

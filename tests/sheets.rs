@@ -1,0 +1,299 @@
+//! Sheets whose 291 numbers are any at all, which every caller can write: each reads as a ledger, every call answers as that ledger
+//! says, and the numbers after it are known to the last one.
+mod acts;
+mod exercises;
+mod face;
+mod ledger;
+mod random;
+mod reference;
+mod sheet;
+
+use acts::{add, all_refusals, answer, entering, mark, open, random_act, random_system, step, Tally, WRONG_PLACES};
+use exercises::{chance, pick};
+use face::LONGEST_BLOCK;
+use ledger::{number, Ledger};
+use random::Random;
+use reference::System;
+use sheet::{Act, Desk, Outcome, NUMBERS};
+use std::collections::BTreeMap;
+
+/// Where the numbers of a sheet lie. That is not the caller's business, and no other test knows it.
+const MODULUS: usize = 0;
+const UNKNOWNS: usize = 1;
+const HELD: usize = 2;
+const CELLS: usize = 3;
+
+/// The lines of the equations held: n coefficients and a right side each, one behind the other. For n up to 16 and k up to 16.
+fn lines(numbers: &[u32]) -> impl Iterator<Item = &[u32]> {
+    numbers[CELLS..].chunks(numbers[UNKNOWNS] as usize + 1).take(numbers[HELD] as usize)
+}
+
+/// What keeps the numbers from being an opened sheet.
+fn faults(numbers: &[u32]) -> Vec<&'static str> {
+    let (m, n, k) = (numbers[MODULUS], numbers[UNKNOWNS], numbers[HELD]);
+    let cell = n <= 16 && k <= 16 && lines(numbers).flatten().any(|&cell| cell >= m);
+    let all = [("modulus", !(2..=65_535).contains(&m)), ("unknowns", !(1..=16).contains(&n)), ("held", k > 16), ("cell", cell)];
+    all.iter().filter(|(_, found)| *found).map(|(name, _)| *name).collect()
+}
+
+/// The ledger as which the numbers read.
+fn reading(numbers: &[u32]) -> Ledger {
+    if !faults(numbers).is_empty() {
+        return Ledger::Unopened;
+    }
+    let equations = lines(numbers).map(|line| line.to_vec()).collect();
+    Ledger::Opened(System { m: numbers[MODULUS], n: numbers[UNKNOWNS] as usize, equations })
+}
+
+/// The numbers of a sheet that was just opened.
+fn opened(m: u32, n: u32) -> Vec<u32> {
+    [vec![m, n], vec![0; NUMBERS - 2]].concat()
+}
+
+/// The numbers after a call with this outcome: but for an opening no others change than the call needs.
+fn after(numbers: &[u32], act: &Act, outcome: Outcome) -> Vec<u32> {
+    let mut numbers = numbers.to_vec();
+    match (act, outcome) {
+        (_, Outcome::Refused(_)) => {}
+        (Act::Open(words), _) => numbers = opened(number(words[0]), number(words[1])),
+        (Act::Add(words), _) => {
+            let at = CELLS + numbers[HELD] as usize * words.len();
+            numbers.splice(at..at + words.len(), words.iter().map(|&word| number(word)));
+            numbers[HELD] += 1;
+        }
+        (Act::Strike(_), _) => numbers[HELD] -= 1,
+        (Act::Answer(_) | Act::Mark(_) | Act::MarkBlock, _) => {}
+    }
+    numbers
+}
+
+/// The call answers as the ledger says as which the numbers read, and leaves the numbers that it should.
+fn expect(desk: &mut Desk, act: &Act, seed: u64, tally: &mut Tally) -> Outcome {
+    let before = desk.numbers().to_vec();
+    let mut ledger = reading(&before);
+    let found = step(desk, &mut ledger, act, tally).and_then(|reply| {
+        let good = after(&before, act, reply.outcome);
+        assert_eq!(reading(&good), ledger, "{act:x?} on {before:?} (seed {seed})");
+        let wrong = (0..NUMBERS).find(|&place| desk.numbers()[place] != good[place]);
+        wrong.map_or(Ok(reply.outcome), |place| Err(format!("number {place} is {}, not {}", desk.numbers()[place], good[place])))
+    });
+    found.unwrap_or_else(|why| panic!("{act:x?}: {why} (seed {seed})\nnumbers: {before:?}"))
+}
+
+/// Each call on a sheet of its own with these numbers, good ones and refused ones.
+fn expect_each(random: &mut Random, numbers: &[u32], tally: &mut Tally) {
+    let unopened = System { m: 7, n: 2, equations: vec![] };
+    let system = if let Ledger::Opened(system) = reading(numbers) { system } else { unopened };
+    let ones = vec![1; system.n];
+    for act in [
+        open(5, 3),
+        open(1, 1),
+        Act::Open(vec![]),
+        add(&[&ones[..], &[0]].concat()),
+        add(&[&ones[..], &[system.m]].concat()),
+        add(&ones),
+        Act::Strike(0),
+        Act::Strike(pick(random, &WRONG_PLACES)),
+        answer(LONGEST_BLOCK),
+        answer(0),
+        mark(&[]),
+        mark(&[ones.clone()]),
+        mark(&vec![vec![0; system.n]; 18]),
+        Act::MarkBlock,
+    ] {
+        expect(&mut Desk::with(numbers), &act, random.seed, tally);
+    }
+}
+
+/// Random calls on one sheet that has these numbers in the beginning.
+fn expect_list(random: &mut Random, numbers: &[u32], tally: &mut Tally) {
+    let mut desk = Desk::with(numbers);
+    let filling = chance(random, 3);
+    for _ in 0..if filling { 30 } else { 10 } {
+        let act = random_act(random, &reading(desk.numbers()), filling);
+        expect(&mut desk, &act, random.seed, tally);
+    }
+}
+
+/// Among the sheets, at least so many have no fault, and at least so many each fault alone.
+fn expect_faults(sheets: &[Vec<u32>], least: usize) {
+    let mut times = BTreeMap::new();
+    sheets.iter().for_each(|numbers| *times.entry(faults(numbers)).or_insert(0) += 1);
+    for faults in [vec![], vec!["modulus"], vec!["unknowns"], vec!["held"], vec!["cell"]] {
+        assert!(times.get(&faults).is_some_and(|&times| times >= least), "{faults:?} among {times:?}");
+    }
+}
+
+/// Puts one number to a value near a limit of its place, or to any.
+fn disturb(random: &mut Random, numbers: &mut [u32]) {
+    let m = numbers[MODULUS];
+    let held: usize = if faults(numbers).is_empty() { lines(numbers).map(<[u32]>::len).sum() } else { 0 };
+    let any = random.bits() as u32;
+    match random.below(6) {
+        0 => numbers[MODULUS] = pick(random, &[0, 1, 2, 3, 65_535, 65_536, 65_537, u32::MAX, any]),
+        1 => numbers[UNKNOWNS] = pick(random, &[0, 1, 2, 15, 16, 17, 255, (1 << 31) - 1, u32::MAX, any]),
+        2 => numbers[HELD] = pick(random, &[0, 1, 2, 15, 16, 17, 18, 1 << 28, 1 << 31, u32::MAX, any]),
+        _ => {
+            let near = CELLS + held.saturating_sub(1) + random.below(2) as usize;
+            let cells = [CELLS + random.below(held.max(1) as u64) as usize, near, CELLS + random.below(288) as usize];
+            let values = [m, m, m.wrapping_sub(1), m.wrapping_add(1), 0, 65_535, 65_536, u32::MAX, any];
+            numbers[pick(random, &cells)] = pick(random, &values);
+        }
+    }
+}
+
+/// Numbers of an opened sheet whose cells behind the equations are any; in half of them one or two numbers are disturbed.
+fn plausible(random: &mut Random) -> Vec<u32> {
+    let (m, n) = if chance(random, 8) {
+        (pick(random, &[2, 12, 32_768, 65_521, 65_535]), pick(random, &[1, 8, 15, 16]))
+    } else {
+        exercises::small_shape(random)
+    };
+    let k = pick(random, &[0, 1, 2, 3, 4, 15, 16]);
+    let tidy = chance(random, 2);
+    let mut numbers = vec![m, n, k];
+    for cell in 0..288 {
+        let below = tidy || cell < k * (n + 1);
+        numbers.push(if below { random.below(m as u64) as u32 } else { random.any_length() });
+    }
+    for _ in 0..pick(random, &[0, 0, 1, 2]) {
+        disturb(random, &mut numbers);
+    }
+    numbers
+}
+
+/// The numbers of a sheet that calls have made, some of the cells left over from struck equations.
+fn made(random: &mut Random) -> Vec<u32> {
+    let (mut desk, mut tally) = (Desk::fresh(), Tally::new());
+    let system = random_system(random);
+    let strikes = vec![Act::Strike(0); random.below(3) as usize];
+    for act in [entering(&system), strikes].concat() {
+        expect(&mut desk, &act, random.seed, &mut tally);
+    }
+    desk.numbers().to_vec()
+}
+
+#[test]
+fn zeroed_memory_is_an_unopened_sheet() {
+    let mut tally = Tally::new();
+    let words = [vec![], ledger::opening(2, 1), ledger::equation(&[1, 1]), ledger::claim(&[]), ledger::claim(&[vec![0]])];
+    let acts = words.iter().flat_map(|words| [Act::Add(words.clone()), Act::Mark(words.clone())]);
+    let strikes = WRONG_PLACES.iter().chain(&[0]).map(|&place| Act::Strike(place));
+    for act in acts.chain(strikes).chain([0, 1, 2, LONGEST_BLOCK].map(answer)).chain([Act::MarkBlock]) {
+        let mut desk = Desk::fresh();
+        assert_eq!(expect(&mut desk, &act, 0, &mut tally), Outcome::Refused(4), "{act:x?}");
+        assert_eq!(desk.numbers(), [0; NUMBERS]);
+    }
+}
+
+#[test]
+fn an_opening_makes_the_same_sheet_of_any_numbers() {
+    let mut random = Random::new();
+    for round in 0..300 {
+        let (m, n) = (2 + random.below(65_534) as u32, 1 + random.below(16) as u32);
+        let mut desk = match round % 3 {
+            0 => Desk::fresh(),
+            1 => Desk::with(&(0..NUMBERS).map(|_| random.bits() as u32).collect::<Vec<u32>>()),
+            _ => Desk::with(&plausible(&mut random)),
+        };
+        assert_eq!(expect(&mut desk, &open(m, n), random.seed, &mut Tally::new()), Outcome::Holds(0));
+        assert_eq!(desk.numbers(), opened(m, n), "seed {}", random.seed);
+        // "without equations": zeros, and the unit vectors as steps
+        expect(&mut desk, &answer(LONGEST_BLOCK), random.seed, &mut Tally::new());
+        let vectors = (0..=n).map(|i| (1..=n).map(|j| (i == j) as u32).collect()).collect::<Vec<Vec<u32>>>();
+        assert_eq!(desk.block(), ledger::claim(&vectors), "{m} {n} (seed {})", random.seed);
+    }
+}
+
+#[test]
+fn sheets_of_random_numbers_answer_every_call() {
+    let mut random = Random::new();
+    let mut tally = Tally::new();
+    for round in 0..1_500 {
+        let mut numbers: Vec<u32> = (0..NUMBERS).map(|_| random.bits() as u32).collect();
+        if round % 2 == 0 {
+            numbers = (0..NUMBERS).map(|_| random.any_length()).collect();
+        }
+        expect_each(&mut random, &numbers, &mut tally);
+        expect_list(&mut random, &numbers, &mut tally);
+    }
+}
+
+#[test]
+fn sheets_with_numbers_replaced_answer_every_call() {
+    let mut random = Random::new();
+    let (mut tally, mut sheets) = (Tally::new(), vec![]);
+    for _ in 0..2_500 {
+        let mut numbers = made(&mut random);
+        for _ in 0..1 + random.below(3) {
+            disturb(&mut random, &mut numbers);
+        }
+        expect_each(&mut random, &numbers, &mut tally);
+        expect_list(&mut random, &numbers, &mut tally);
+        sheets.push(numbers);
+    }
+    expect_faults(&sheets, 100);
+    assert_eq!(tally, all_refusals(), "refusals seen, and refusals to be seen");
+}
+
+#[test]
+fn plausible_sheets_answer_every_call() {
+    let mut random = Random::new();
+    let (mut tally, mut sheets) = (Tally::new(), vec![]);
+    for _ in 0..2_500 {
+        let numbers = plausible(&mut random);
+        expect_each(&mut random, &numbers, &mut tally);
+        expect_list(&mut random, &numbers, &mut tally);
+        sheets.push(numbers);
+    }
+    expect_faults(&sheets, 50);
+    assert_eq!(tally, all_refusals(), "refusals seen, and refusals to be seen");
+}
+
+#[test]
+fn the_limits_of_each_number_decide_whether_a_sheet_is_opened() {
+    let mut random = Random::new();
+    let (mut tally, mut sheets) = (Tally::new(), vec![]);
+    for m in [0, 1, 2, 65_535, 65_536, u32::MAX] {
+        for n in [0, 1, 16, 17, (1 << 31) - 1, u32::MAX] {
+            for k in [0, 1, 15, 16, 17, 1 << 28, 1 << 31, u32::MAX] {
+                let below = [vec![m, n, k], vec![m.saturating_sub(1); 288]].concat();
+                sheets.push(below.clone());
+                // the first cell, the last one of the equations, the one behind it, and the last of all
+                let end = (k.min(16) * (n.min(16) + 1)) as usize;
+                for cell in [0, end.saturating_sub(1), end, 287] {
+                    let mut above = below.clone();
+                    above[CELLS + cell] = m;
+                    sheets.push(above);
+                }
+            }
+        }
+    }
+    sheets.iter().for_each(|numbers| expect_each(&mut random, numbers, &mut tally));
+    expect_faults(&sheets, 10);
+}
+
+#[test]
+fn a_sheet_is_its_numbers_and_nothing_else() {
+    let mut random = Random::new();
+    for _ in 0..300 {
+        let mut desk = Desk::with(&made(&mut random));
+        let mut others: Vec<Desk> = vec![];
+        for _ in 0..12 {
+            // a copy that begins here does the same from here on, whatever is called on the others between
+            others.push(Desk::with(desk.numbers()));
+            let act = loop {
+                let act = random_act(&mut random, &reading(desk.numbers()), false);
+                if act != Act::MarkBlock {
+                    break act;
+                }
+            };
+            let reply = desk.act(&act);
+            assert!(reply.is_ok(), "{act:x?}: {reply:?} (seed {})", random.seed);
+            for other in &mut others {
+                assert_eq!(other.act(&act), reply, "{act:x?} (seed {})", random.seed);
+                assert_eq!(other.numbers(), desk.numbers(), "{act:x?} (seed {})", random.seed);
+            }
+        }
+    }
+}
