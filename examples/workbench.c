@@ -151,7 +151,7 @@ static void mark_claim(const struct page *page, uint32_t vectors, const uint32_t
 
 int main(void)
 {
-    if (milebadger_version() != MILEBADGER_VERSION) {
+    if (milebadger_version() / 10000 != MILEBADGER_VERSION / 10000) {
         printf("compiled for another version of the library\n");
         return 1;
     }

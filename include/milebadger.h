@@ -60,11 +60,13 @@
 extern "C" {
 #endif
 
-/* This header's version: 10,000 times its first number, 100 times its second and its third; 10000 is 1.0.0. */
+/* This header's version: 10,000 times its first number, 100 times its second and its third; 10000 is 1.0.0. The header
+ * goes with its library. As long as the first number is the same, a sheet keeps its size and the calls keep their
+ * arguments; a program that loads the shared library can ask for that when it starts:
+ * milebadger_version() / 10000 == MILEBADGER_VERSION / 10000. */
 #define MILEBADGER_VERSION 10000
 
-/* The library's version. The header goes with its library: a program that loads the shared library can compare this
- * with MILEBADGER_VERSION when it starts.
+/* The library's version.
  *
  * Returns  the MILEBADGER_VERSION that the library was made with. */
 uint32_t milebadger_version(void);
@@ -90,9 +92,9 @@ static inline const char *milebadger_sentence(int64_t result)
         return "done";
     switch (result) {
     case MILEBADGER_REFUSED_SHAPE:
-        return "wrong shape: not the words that this call takes, or not as many";
+        return "wrong shape: not what this call takes, not as much of it, or a place other than 0";
     case MILEBADGER_REFUSED_MODULUS:
-        return "the modulus is not from 2 to 65,535";
+        return "the modulus is below 2 or too large";
     case MILEBADGER_REFUSED_UNKNOWNS:
         return "the number of unknowns, or of locks, is not from 1 to 16";
     case MILEBADGER_REFUSED_UNOPENED:
@@ -129,7 +131,7 @@ static inline const char *milebadger_sentence(int64_t result)
 #define MILEBADGER_ANSWER MILEBADGER_WORD(9, 0)
 #define MILEBADGER_NUMBER(word) ((uint32_t)(word) & MILEBADGER_LARGEST_NUMBER)
 
-/* What is accepted, at most. Just milebadger_solve takes any modulus. */
+/* What is accepted, at most. Only milebadger_solve takes any modulus. */
 #define MILEBADGER_LARGEST_MODULUS 65535
 #define MILEBADGER_MOST_UNKNOWNS 16
 #define MILEBADGER_MOST_EQUATIONS 16

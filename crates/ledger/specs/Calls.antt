@@ -3,7 +3,7 @@ use mathlib.Core.List.{List}
 use Prim.Native.Nat.{ℕ}
 
 -- The calls that open, add or strike, each "with its arguments other than the sheet". Words and buffers are given by what "their
--- memory holds at that call"; a strike has the number of its word, 0 where a caller names none.
+-- memory holds at that call"; a strike has the number of its word on tape, or the place that a C caller names.
 pub data Entry : Type 0 where
   opens : List ℕ → Entry
   adds : List ℕ → Entry

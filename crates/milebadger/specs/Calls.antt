@@ -37,8 +37,8 @@ minus k = negℤ (pos k)
 abbrev pub version : ℕ
 version = 10000
 
--- What the calls on a sheet give back, as a result: "the equations then held", the words of the block, or 1 for a pass and 0 for a
--- fail; or minus the number of the refusal.
+-- What the calls on a sheet give back, as a result: "the equations then held", how many words the block has, or 1 for a pass and 0 for
+-- a fail; or minus the number of the refusal.
 unfoldable pub enteredResult : Entered → ℤ
 enteredResult (Holds k) = pos k
 enteredResult (Entered·Refused k) = minus k

@@ -5,7 +5,7 @@ pub mod sheets;
 
 ghost use mathlib.Core.Path.{_≡_};
 ghost use Rattle.safe.specs.Calls.{turnedOf, bufferAfter};
-ghost use Rattle.milebadger.specs.Calls.{Replied, gcdReply, congruenceReply, solveReply, tapeReply, turnedResult};
+ghost use Rattle.milebadger.specs.Calls.{version, Replied, gcdReply, congruenceReply, solveReply, tapeReply, turnedResult};
 use congruence::Solved;
 use congruence::solve as solve_one;
 use posing::refusal;
@@ -26,6 +26,16 @@ use tape::running::write;
 const FEW: u32 = 4;
 
 const FEW_NUMBERS: usize = 20;
+
+// The header's: 10,000 · 1 + 100 · 0 + 0.
+const VERSION: u32 = 10000;
+
+#[no_mangle]
+pub extern "C" fn milebadger_version() -> u32
+    ensures { λ r. ⌜ r ≡ version ⌝ }
+{
+    VERSION
+}
 
 // Euclid's chain: the divisor of a and b and the number of divisions made.
 #[no_mangle]

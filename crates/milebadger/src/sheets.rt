@@ -1,25 +1,16 @@
-// The calls on a sheet that lies in the C program's own memory. They work there, and nothing is copied. Where a call is refused, the
+// The calls on a sheet that lies in the C program's own memory. They work there, and no sheet is copied. Where a call is refused, the
 // result is minus the question's number.
 ghost use mathlib.Core.Path.{_≡_};
 ghost use Rattle.ledger.specs.Calls.{opens, adds, strikes};
 ghost use Rattle.sheet.specs.Record.{ledgerOf};
 ghost use Rattle.sheet.specs.Calls.{enteredOf, sheetAfter, answeredOf, bufferAfter, markedOf};
-ghost use Rattle.milebadger.specs.Calls.{version, enteredResult, answeredResult, markedResult};
+ghost use Rattle.milebadger.specs.Calls.{enteredResult, answeredResult, markedResult};
 use crate::replying::entered_result;
 use crate::replying::mark_result;
 use crate::replying::refuse;
 use sheet::Sheet;
 use sheet::answering::Answered;
 use sheet::marking::Marked;
-
-const VERSION: u32 = 10000;
-
-#[no_mangle]
-pub extern "C" fn milebadger_version() -> u32
-    ensures { λ r. ⌜ r ≡ version ⌝ }
-{
-    VERSION
-}
 
 // Opens the sheet: 0.
 #[no_mangle]

@@ -1,13 +1,11 @@
 -- The memory of an opened sheet: a part of it is lent, and comes back with other numbers at the front.
 --   whole, filled-small, width-small   sizes that fit a number
---   lines-size                  how many numbers so many lines are, for who knows both factors by other names
 --   line-room, line-written     a line written behind the others
 --   place-fits                  a line that is held lies in the cells
 --   moving-fits, moved-up       the lines behind it, moved up to its place
-use mathlib.Core.Path.{_≡_, refl, sym, ap, ap₂, _∙_}
+use mathlib.Core.Path.{_≡_, refl, sym, ap, _∙_}
 use mathlib.Core.List.{List, [], _∷_, _++_}
 use Prim.Native.Nat.{ℕ, suc, _+_, _-_, _*_, _<_, _≤_}
-use native.Mathlib.Nat.{mul-le-mul-right}
 use native.Mathlib.Omega.{arith}
 use lib.Dec.{T}
 use lib.ListN.{length, take, drop, set}
@@ -20,10 +18,7 @@ use Rattle.ledger.specs.History.{gains, loses}
 use Rattle.sheet.specs.Record.{Sheet, modulusIn, unknownsIn, heldIn, cellsIn, sheetOf, room, size, cellsOf, linesIn, ledgerOf, writtenAt, recordBy}
 use Rattle.sheet.proofs.Reading.{Fit, filled, readable-fit, cells-room, filled-fits, opened-readable}
 use Rattle.sheet.proofs.Joined.{line-whole, drop-take}
-use Rattle.sheet.proofs.Records.{more-fits}
-
-pub lines-size : {a b k n : ℕ} → a ≡ k → b ≡ n → a * (b + 1) ≡ k * (n + 1)
-lines-size = ap₂ (λ (x y : ℕ). x * (y + 1))
+use Rattle.sheet.proofs.Records.{more-fits, upTo}
 
 -- xs written from the i-th cell on, and the number of equations with it
 module _ (i k : ℕ) (xs : List ℕ) where
@@ -74,11 +69,9 @@ module _ (s : Sheet) (is : T (isOpened (ledgerOf s))) where
 
   module _ (j : ℕ) (place : j < heldIn s) where
     pub place-fits : j * (unknownsIn s + 1) + (unknownsIn s + 1) ≤ filled s
-    place-fits =
-        let next : cellsOf s (suc j) ≤ filled s = mul-le-mul-right (unknownsIn s + 1) (omega arith) in
-        omega (arith, next)
+    place-fits = omega (arith, upTo s fit j place)
 
-    -- for who knows these numbers by other names
+    -- where these numbers have other names too
     module _ (width at count : ℕ) (wide : width ≡ unknownsIn s + 1) (first : at ≡ 3 + j * (unknownsIn s + 1))
         (rest : count ≡ filled s - j * (unknownsIn s + 1) - (unknownsIn s + 1)) where
       pub moving-fits : width + count ≤ length (lent at s)

@@ -1,10 +1,9 @@
 -- What open, add and strike give back.
---   entry-refused              the number of the question that turned the call away, and the sheet as it was
---   entry-accepted             the equations then held, and the numbers that the call's effect makes
---   open-is, open-accepted     an accepted opening has two words
---   add-opened, add-under      there is room for an accepted equation,
---   add-width, add-accepted    and its line is seen in the numbers
---   strike-opened, strike-place, strike-accepted   an accepted strike has an equation to strike
+--   entry-refused                   the number of the question that turned the call away, and the sheet as it was
+--   open-is, open-accepted          an accepted opening has two words
+--   add-opened, add-under           there is room for an accepted equation,
+--   add-width, add-accepted         and its line is seen in the numbers
+--   strike-opened, strike-some, strike-place, strike-accepted   an accepted strike has an equation to strike
 use mathlib.Core.Path.{_≡_, refl, sym, ap, ap₂, _∙_}
 use mathlib.Core.List.{List}
 use Prim.Native.Nat.{ℕ, _+_, _-_, _<_}
@@ -103,7 +102,7 @@ module _ (s : Sheet) (ws : List ℕ) {seen : Seen} (sees : Sees (ledgerOf s) see
         (true-of (isEquation (unknownsOf (ledgerOf s)) (wordsIn ws)) (accepted-yes (ledgerOf s) (enters (adds ws)) (sym is ∙ none) .1 .0))
         ∙ ap (λ (k : ℕ). k + 1) (sym (sees .unknowns))
 
-    pub add-line : take (seen .unknowns + 1) new ≡ numbersOf (wordsIn ws)
+    add-line : take (seen .unknowns + 1) new ≡ numbersOf (wordsIn ws)
     add-line =
         let few = unknowns-few s in
         over-front (seen .unknowns + 1) (numbersOf (wordsIn ws)) old

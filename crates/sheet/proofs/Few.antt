@@ -1,5 +1,6 @@
--- However a sheet came about, the ledger that it reads as has at most 16 unknowns and holds at most 16 equations; so what a call says
--- that it then holds is no more.
+-- However a sheet came about.
+--   unknowns-few   the ledger that it reads as has at most 16 unknowns
+--   held-few       and a call says that it then holds at most 16 equations
 use mathlib.Core.Path.{_≡_, ap}
 use mathlib.Core.Logic.{⊎-elim}
 use mathlib.Core.Bool.{Bool, true, false, cond}
@@ -25,7 +26,7 @@ unknowns-few s =
     ⊎-elim (λ is. rw (ledger-opened s is) (readable-fit s is .unknowns)) (λ no. rw (ledger-unopened s no) (omega arith))
     (true-or-false (readable s))
 
-pub equations-few : (s : Sheet) → length (equationsIn (ledgerOf s)) ≤ mostEquations
+equations-few : (s : Sheet) → length (equationsIn (ledgerOf s)) ≤ mostEquations
 equations-few s =
     ⊎-elim (λ is. omega (arith, held-counts s is, readable-fit s is .equations))
     (λ no. omega (arith, ap (λ (l : Ledger). length (equationsIn l)) (ledger-unopened s no))) (true-or-false (readable s))

@@ -66,7 +66,7 @@ module _ (l : Ledger) (ws : List ℕ) (accepted : refusalOf l (queries (marks ws
     end-is : getD new 0 0 * unknownsOf l + 1 ≡ length all
     end-is = ap (λ (k : ℕ). k * unknownsOf l + 1) head-is ∙ add-one _ ∙ sym long
 
-    -- for who has seen the ledger, and knows the head as h
+    -- where the ledger is seen, and the head has the name h too
     module _ {see : Seen} (sees : Sees l see) (h : ℕ) (same-h : h ≡ getD new 0 0) where
       pub mark-end : h * see .unknowns + 1 ≤ longestBlock
       mark-end =

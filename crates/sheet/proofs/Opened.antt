@@ -1,6 +1,5 @@
 -- Whether a sheet is opened, and what is seen of it.
 --   modulus-not, unknowns-not, equations-not, residues-decide   one test of that after the other
---   opened-fit                      what holds of an opened sheet's record
 --   lines-to                        the lines up to their end
 --   sees-read, sees-unopened        what the questions see
 --   views                           what queries see
@@ -27,7 +26,7 @@ use Rattle.asking.specs.Sees.{Sees}
 use Rattle.sheet.specs.declared.viewing.View.{View}
 use Rattle.sheet.specs.Record.{Sheet, modulusIn, unknownsIn, heldIn, cellsIn, size, linesIn, readable, ledgerOf}
 use Rattle.sheet.specs.View.{linesTo, Views}
-use Rattle.sheet.proofs.Reading.{Fit, readable-fit, filled-fits, ledger-opened, ledger-unopened, opened-posed, held-counts}
+use Rattle.sheet.proofs.Reading.{Fit, lines-size, readable-fit, filled-fits, ledger-opened, ledger-unopened, opened-posed, held-counts}
 
 module _ (s : Sheet) where
   opened-is : isOpened (ledgerOf s) ≡ readable s
@@ -38,11 +37,10 @@ module _ (s : Sheet) where
       go true = refl
       go false = refl
 
-  -- the lines up to their end, for who knows the unknowns and the equations held by other names
+  -- the lines up to their end, where the unknowns and the equations held have other names too
   pub lines-to : {n held : ℕ} (end : ℕ) → end ≡ 3 + held * (n + 1) → n ≡ unknownsIn s → held ≡ heldIn s → linesTo end s ≡ linesIn s
   lines-to {n} {held} end at same-n same-held =
-      let size : held * (n + 1) ≡ heldIn s * (unknownsIn s + 1) = ap₂ (λ (a b : ℕ). a * (b + 1)) same-held same-n in
-      let count : end - 3 ≡ heldIn s * (unknownsIn s + 1) = omega (arith, at, size) in
+      let count : end - 3 ≡ heldIn s * (unknownsIn s + 1) = omega (arith, at, lines-size same-held same-n) in
       ap (λ (k : ℕ). take k (cellsIn s)) count
 
   pub modulus-not : allowedModulus (modulusIn s) ≡ false → isOpened (ledgerOf s) ≡ false
@@ -74,13 +72,13 @@ module _ (s : Sheet) where
     reads : readable s ≡ true
     reads = sym opened-is ∙ h
 
-    pub opened-fit : Fit s
+    opened-fit : Fit s
     opened-fit = readable-fit s reads
 
-    pub opened-ledger : ledgerOf s ≡ opened (modulusIn s) (unknownsIn s) (equationsOf (unknownsIn s) (linesIn s))
+    opened-ledger : ledgerOf s ≡ opened (modulusIn s) (unknownsIn s) (equationsOf (unknownsIn s) (linesIn s))
     opened-ledger = ledger-opened s reads
 
-    -- for who knows the unknowns and the equations held by other names
+    -- where the unknowns and the equations held have other names too
     pub sees-read : {n held : ℕ} → n ≡ unknownsIn s → held ≡ heldIn s
         → Sees (ledgerOf s) (record { opened = true; modulus = modulusIn s; unknowns = n; held = held })
         × ((n ≤ mostUnknowns) × (held ≤ mostEquations))

@@ -1,5 +1,6 @@
 -- The promises of specs/Promises.antt, kept.
---   demand3             after every list with an accepted opening, answers and marks are right
+--   right-always        where memory reads as an opened sheet, answers and marks are right
+--   demand3             so they are after every list with an accepted opening
 --   decided-always      after every list of calls the ledger's questions decide the next one
 --   own-block-passes    an answer's own block passes
 --   zeros-are-fresh     zeroed memory is a fresh sheet
@@ -10,8 +11,8 @@ use mathlib.Core.List.{List}
 use Prim.Native.Nat.{ℕ, _<_, _≤_}
 use native.Mathlib.Omega.{arith}
 use borrow.Author.Tests.{ne-eqb}
-use lib.ListN.{length, take}
-use lib.Dec.{eqb→eq}
+use lib.ListN.{length}
+use lib.Dec.{T, eqb→eq}
 use Rattle.slices.specs.Over.{over}
 use Rattle.slices.proofs.Over.{over-front}
 use Rattle.equations.specs.declared.Mark.the-variants.{Pass}
@@ -19,7 +20,7 @@ use Rattle.equations.specs.Equation.{Equation}
 use Rattle.equations.proofs.Answer.{start-found}
 use Rattle.equations.proofs.Promises.{no-start}
 use Rattle.words.specs.Words.{wordOf, wordsIn}
-use Rattle.ledger.specs.Ledger.{Ledger, opened}
+use Rattle.ledger.specs.Ledger.{Ledger, opened, isOpened, modulusOf, unknownsOf, equationsIn}
 use Rattle.ledger.specs.Allowed.{Allowed}
 use Rattle.ledger.specs.Shapes.{claimFrom}
 use Rattle.ledger.specs.Block.{answerWords}
@@ -29,13 +30,13 @@ use Rattle.ledger.specs.History.{ledger}
 use Rattle.ledger.proofs.Answer.{answer-fits}
 use Rattle.ledger.proofs.Refusals.{answers-word-plain}
 use Rattle.ledger.proofs.History.{Opened, opening-opens}
-use Rattle.ledger.proofs.Sound.{ledger-sound}
 use Rattle.sheet.specs.declared.answering.Answered.the-variants.{Wrote}
 use Rattle.sheet.specs.declared.marking.Marked.the-variants.{Gets}
-use Rattle.sheet.specs.Record.{fresh, ledgerOf}
+use Rattle.sheet.specs.Record.{Sheet, fresh, ledgerOf}
 use Rattle.sheet.specs.Calls.{enteredOf, answeredOf, bufferAfter, shownOf, markedOf}
 use Rattle.sheet.specs.History.{sheetFrom, after}
-use Rattle.sheet.specs.Promises.{NothingSolves, Shows, RightMark, Promised, Demand3, DecidedAlways, OwnBlockPasses, ZerosAreFresh, ReadsOn}
+use Rattle.sheet.specs.Promises.{NothingSolves, Shows, RightMark, RightSheet, Demand3, DecidedAlways, OwnBlockPasses, ZerosAreFresh, RightAlways, ReadsOn}
+use Rattle.sheet.proofs.Reading.{reads-allowed}
 use Rattle.sheet.proofs.History.{from-reads, fresh-unopened, after-reads, left-refused}
 use Rattle.sheet.proofs.Solved.{solved-words, shown-block}
 use Rattle.sheet.proofs.Answers.{answered-short, answered-wrote, answered-asked, buffer-asked, shown-refusal, right-block}
@@ -43,12 +44,11 @@ use Rattle.sheet.proofs.Marks.{right-mark, own-mark}
 
 -- ---- demand 3
 
-module _ (calls : List Call) (m n : ℕ) (es : List Equation) (holds : ledger calls ≡ opened m n es) where
-  reads : ledgerOf (after calls) ≡ opened m n es
-  reads = after-reads calls ∙ holds
-
+module _ (s : Sheet) (m n : ℕ) (es : List Equation) (reads : ledgerOf s ≡ opened m n es) where
   allowed : Allowed m n es
-  allowed = ledger-sound calls m n es holds
+  allowed =
+      subst (λ (l : Ledger). Allowed (modulusOf l) (unknownsOf l) (equationsIn l)) reads
+      (reads-allowed s (subst (λ (l : Ledger). T (isOpened l)) (sym reads) tt))
 
   positive : 0 < m
   positive = omega (arith, allowed .modulus)
@@ -57,8 +57,11 @@ module _ (calls : List Call) (m n : ℕ) (es : List Equation) (holds : ledger ca
   block = answerWords (opened m n es)
 
   wrote : (old : List ℕ) → length block ≤ length old
-      → (answeredOf (opened m n es) old ≡ Wrote (length block)) × (bufferAfter (opened m n es) old ≡ over block old)
-  wrote old long = let w = answered-wrote (opened m n es) old refl long in (sym (w .0), sym (w .1))
+      → (answeredOf (ledgerOf s) old ≡ Wrote (length block)) × (bufferAfter (ledgerOf s) old ≡ over block old)
+  wrote old long =
+      let w = answered-wrote (opened m n es) old refl long in
+      subst (λ (l : Ledger). (answeredOf l old ≡ Wrote (length block)) × (bufferAfter l old ≡ over block old)) (sym reads)
+      (sym (w .0), sym (w .1))
 
   shows : (w : ℕ) → wordOf w .number ≡ 0 → Shows block (shownOf (opened m n es) w)
   shows w none =
@@ -67,36 +70,21 @@ module _ (calls : List Call) (m n : ℕ) (es : List Equation) (holds : ledger ca
         solved-words (opened m n es) (shownOf (opened m n es) w .block) (shown-block (opened m n es) w accepted) tt,
       )
 
-  promised : Promised calls
-  promised =
+  right-sheet : RightSheet s m n es
+  right-sheet =
       record {
-        m = m;
-        n = n;
-        es = es;
-        holds = holds;
         allowed = allowed;
         block = block;
         right = right-block m n es positive (allowed .shaped);
         fits = answer-fits m n es positive (allowed .shaped) (allowed .equations) (allowed .unknowns);
-        answer = λ old long.
-            subst (λ (l : Ledger). (answeredOf l old ≡ Wrote (length block)) × (bufferAfter l old ≡ over block old)) (sym reads)
-            (wrote old long);
-        short = λ old h.
-            ap (λ (l : Ledger). answeredOf l old) reads ∙ sym (answered-short (opened m n es) old refl h .0);
+        answer = wrote;
+        short = λ old h. ap (λ (l : Ledger). answeredOf l old) reads ∙ sym (answered-short (opened m n es) old refl h .0);
         answerFromTape = λ w none.
             subst (λ (l : Ledger). Shows block (shownOf l w)) (sym reads) (shows w (eqb→eq (wordOf w .number) 0 none));
         mark = λ ws well.
             subst (λ (l : Ledger). RightMark m n es (claimFrom n (wordsIn ws)) (markedOf l ws)) (sym reads)
             (right-mark m n es positive ws well);
       }
-
-  -- the block lies at the front of the buffer
-  block-front : (old : List ℕ) → length (answerWords (ledger calls)) ≤ length old
-      → take (length (answerWords (ledger calls))) (bufferAfter (ledgerOf (after calls)) old) ≡ block
-  block-front old long =
-      let size : length (answerWords (ledger calls)) ≡ length block = ap (λ (l : Ledger). length (answerWords l)) holds in
-      over-front (length (answerWords (ledger calls))) block old
-      (ap (λ (l : Ledger). bufferAfter l old) reads ∙ wrote old (omega (arith, size, long)) .1) (sym size)
 
   own-passes : (NothingSolves m n es → ⊥) → markedOf (opened m n es) block ≡ Gets Pass
   own-passes solvable =
@@ -105,16 +93,30 @@ module _ (calls : List Call) (m n : ℕ) (es : List Equation) (holds : ledger ca
       (allowed .unknowns) (found .0) (found .1))
       (start-found m n es)
 
+pub right-always : RightAlways
+right-always = right-sheet
+
 pub demand3 : Demand3
 demand3 calls (before, ws, rest, is, accepted) =
     let o : Opened (ledger calls) =
     subst (λ (cs : List Call). Opened (ledger cs)) (sym is) (opening-opens before ws rest accepted) in
-    promised calls (o .0) (o .1) (o .2) (o .3)
+    record {
+      m = o .0;
+      n = o .1;
+      es = o .2;
+      holds = o .3;
+      right = right-sheet (after calls) (o .0) (o .1) (o .2) (after-reads calls ∙ o .3);
+    }
 
 pub own-block-passes : OwnBlockPasses
 own-block-passes calls m n es old holds solvable h =
-    ap₂ markedOf (reads calls m n es holds) (block-front calls m n es holds old h)
-    ∙ own-passes calls m n es holds solvable
+    let reads = after-reads calls ∙ holds in
+    let block = answerWords (opened m n es) in
+    let size : length (answerWords (ledger calls)) ≡ length block = ap (λ (l : Ledger). length (answerWords l)) holds in
+    ap₂ markedOf reads
+    (over-front (length (answerWords (ledger calls))) block old
+    (wrote (after calls) m n es reads old (omega (arith, size, h)) .1) (sym size))
+    ∙ own-passes (after calls) m n es reads solvable
 
 -- ---- what the questions decide
 

@@ -6,14 +6,17 @@
 --   opened-readable                   and only a readable record is
 --   opened-posed                      the equations of a readable record may be asked about
 --   held-counts                       it counts the ledger's equations
-use mathlib.Core.Path.{_≡_, ap, subst, _∙_}
+--   reads-allowed                     what an opened sheet holds is what the questions let in
+--   lines-size                        how many numbers so many lines are, where both factors have other names too
+use mathlib.Core.Path.{_≡_, sym, ap, ap₂, subst, _∙_}
 use mathlib.Core.Logic.{⊎-elim}
 use mathlib.Core.Bool.{Bool, true, false, cond, _&&_}
-use Prim.Native.Nat.{ℕ, _+_, _%_, _≤_}
+use mathlib.Core.List.{List}
+use Prim.Native.Nat.{ℕ, zero, suc, _+_, _*_, _%_, _≤_}
 use native.Mathlib.Nat.{mul-le-mul, mul-mod-left, mul-le-mul-right}
 use native.Mathlib.Omega.{arith}
 use lib.Dec.{T, eqb, leb, leb→le, le→leb, eqb→eq}
-use lib.ListN.{length, length-drop}
+use lib.ListN.{length, drop, length-drop}
 use lib.Seq.{length-take-le}
 use mir.Facts.{and-yes, yes-and, yes-eqb}
 use Rattle.questions.specs.Questions.{allowedModulus, largestModulus}
@@ -22,12 +25,25 @@ use Rattle.equations.specs.Vectors.{Below}
 use Rattle.equations.specs.Multipliers.{allBelow}
 use Rattle.equations.specs.Lines.{equationsOf}
 use Rattle.equations.proofs.Truth.{true-of, of-true, true-or-false}
-use Rattle.equations.proofs.Vectors.{all-below}
-use Rattle.equations.proofs.Lines.{equations-count}
+use Rattle.equations.proofs.Vectors.{all-below, below-at, below-take, below-drop}
+use Rattle.equations.proofs.Lines.{equations-none, equations-more, equations-shaped, equations-count}
 use Rattle.system.specs.Posed.{Posed}
-use Rattle.ledger.specs.Ledger.{Ledger, unopened, opened, isOpened, equationsIn, mostEquations, mostUnknowns}
+use Rattle.ledger.specs.Ledger.{Ledger, unopened, opened, isOpened, modulusOf, unknownsOf, equationsIn, mostEquations, mostUnknowns}
+use Rattle.ledger.specs.Allowed.{Residues, Allowed}
 use Rattle.ledger.specs.Questions.{allowedUnknowns}
 use Rattle.sheet.specs.Record.{Sheet, modulusIn, unknownsIn, heldIn, cellsIn, room, size, cellsOf, linesIn, readable, ledgerOf}
+
+pub lines-size : {a b k n : ℕ} → a ≡ k → b ≡ n → a * (b + 1) ≡ k * (n + 1)
+lines-size = ap₂ (λ (x y : ℕ). x * (y + 1))
+
+equations-below : (k m n : ℕ) (xs : List ℕ) → length xs ≡ k * (n + 1) → Below m xs → Residues m (equationsOf n xs)
+equations-below zero m n xs long below = rw (equations-none n xs (omega (arith, long))) tt
+equations-below (suc k) m n xs long below =
+    rw (equations-more n xs (omega (arith, long))) (
+      below-take m n xs below,
+      below-at m n xs below (omega (arith, long)),
+      equations-below k m n (drop (n + 1) xs) (omega (arith, long, length-drop (n + 1) xs)) (below-drop m (n + 1) xs below),
+    )
 
 pub record Fit (s : Sheet) : Type 0 where
   pub modulus : 2 ≤ modulusIn s
@@ -130,3 +146,19 @@ module _ (s : Sheet) where
   held-counts h =
       ap (λ (l : Ledger). length (equationsIn l)) (ledger-opened h)
       ∙ equations-count (heldIn s) (unknownsIn s) (linesIn s) (length-lines (readable-fit h))
+
+  pub reads-allowed : T (isOpened (ledgerOf s))
+      → Allowed (modulusOf (ledgerOf s)) (unknownsOf (ledgerOf s)) (equationsIn (ledgerOf s))
+  reads-allowed is =
+      let reads = opened-readable is in
+      let f = readable-fit reads in
+      subst (λ (l : Ledger). Allowed (modulusOf l) (unknownsOf l) (equationsIn l)) (sym (ledger-opened reads))
+      (record {
+        modulus = f .modulus;
+        largest = f .largest;
+        hasUnknowns = f .hasUnknowns;
+        unknowns = f .unknowns;
+        equations = omega (arith, f .equations, equations-count (heldIn s) (unknownsIn s) (linesIn s) (length-lines f));
+        shaped = equations-shaped (unknownsIn s) (linesIn s);
+        residues = equations-below (heldIn s) (modulusIn s) (unknownsIn s) (linesIn s) (length-lines f) (f .residues);
+      })

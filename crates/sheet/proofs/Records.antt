@@ -1,9 +1,10 @@
 -- The records that the effects make, and the ledgers that they read as.
 --   changed-reads   the new record reads as the changed ledger
 --   more-fits       there is room for one equation more
+--   upTo            an equation that is held ends within the lines
 use mathlib.Core.Path.{_≡_, refl, sym, ap, ap₂, subst, _∙_}
 use mathlib.Core.List.{List, [], _∷_, _++_, append-assoc}
-use Prim.Native.Nat.{ℕ, zero, suc, _+_, _-_, _*_, _≤_, _<_}
+use Prim.Native.Nat.{ℕ, suc, _+_, _-_, _*_, _≤_, _<_}
 use native.Mathlib.Nat.{mul-le-mul, mul-le-mul-right, zero-mul}
 use native.Mathlib.Omega.{arith}
 use lib.Dec.{T}
@@ -14,7 +15,7 @@ use Rattle.questions.proofs.Questions.{within-range}
 use Rattle.equations.specs.Vectors.{Below}
 use Rattle.equations.specs.Equation.{Equation}
 use Rattle.equations.specs.Lines.{equationsOf}
-use Rattle.equations.proofs.Vectors.{below-append, below-take}
+use Rattle.equations.proofs.Vectors.{below-append, below-take, below-drop}
 use Rattle.equations.proofs.Lines.{equations-none, equations-snoc, equations-take}
 use Rattle.ledger.specs.Ledger.{Ledger, opened, mostEquations, mostUnknowns}
 use Rattle.ledger.specs.Questions.{allowedUnknowns}
@@ -77,11 +78,6 @@ module _ (i : ℕ) (xs cells : List ℕ) (fits : i + length xs ≤ length cells)
         length-drop (length xs) (drop i cells),
       )
 
-below-drop : (m k : ℕ) (xs : List ℕ) → Below m xs → Below m (drop k xs)
-below-drop m zero xs h = h
-below-drop m (suc k) [] h = tt
-below-drop m (suc k) (x ∷ xs) h = below-drop m k xs (h .1)
-
 -- ---- the lines that a record holds, and those that it then holds
 
 module _ (s : Sheet) (f : Fit s) where
@@ -129,7 +125,7 @@ module _ (s : Sheet) (f : Fit s) where
     abbrev behind : List ℕ
     behind = drop (cellsOf s (suc j)) (linesIn s)
 
-    upTo : cellsOf s (suc j) ≤ filled s
+    pub upTo : cellsOf s (suc j) ≤ filled s
     upTo = mul-le-mul-right (unknownsIn s + 1) (omega arith)
 
     behind-length : cellsOf s j + length behind ≡ cellsOf s (heldIn s - 1)

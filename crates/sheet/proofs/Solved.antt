@@ -1,5 +1,4 @@
 -- The block that answers the equations of an opened sheet, and that words can hold it.
---   Small, reads-small   what the words of a block need
 --   solved-block         its numbers are the block's,
 --   solved-whole         and lie in the array
 --   solved-words         its words are the ledger's answer,
@@ -15,47 +14,23 @@ use native.Mathlib.Omega.{arith}
 use lib.Dec.{T}
 use lib.ListN.{length, take, drop, getD}
 use lib.Seq.{length-take-le}
-use Rattle.questions.specs.Questions.{largestModulus}
 use Rattle.equations.specs.Vectors.{Below}
-use Rattle.equations.specs.Equation.{Shaped}
 use Rattle.equations.proofs.Vectors.{below-mono}
-use Rattle.equations.proofs.Lines.{equations-shaped, equations-count}
 use Rattle.system.specs.declared.solving.Answer.{Answer}
 use Rattle.system.specs.Block.{blockOf, answerOf}
 use Rattle.system.proofs.Block.{block-head, block-start, block-below}
 use Rattle.system.proofs.Written.{answer-block, answer-fits}
 use Rattle.words.specs.Words.{numbersOfAKind}
-use Rattle.ledger.specs.Ledger.{Ledger, unopened, opened, isOpened, modulusOf, unknownsOf, equationsIn, mostEquations, mostUnknowns}
+use Rattle.ledger.specs.Ledger.{Ledger, unopened, opened, isOpened, modulusOf, unknownsOf, equationsIn}
 use Rattle.ledger.specs.Shapes.{largestHead}
 use Rattle.ledger.specs.Block.{blockWords, answerWords}
+use Rattle.ledger.specs.Allowed.{Allowed}
 use Rattle.ledger.specs.Calls.{answersFromTape, queries}
 use Rattle.ledger.specs.Questions.{refusalOf}
 use Rattle.ledger.proofs.Blocks.{block-words-length}
-use Rattle.sheet.specs.Record.{Sheet, unknownsIn, heldIn, linesIn, ledgerOf}
 use Rattle.sheet.specs.Calls.{shownOf}
-use Rattle.sheet.proofs.Reading.{readable-fit, length-lines, opened-readable, ledger-opened}
 
-pub record Small (l : Ledger) : Type 0 where
-  pub positive : 0 < modulusOf l
-  pub largest : modulusOf l ≤ largestModulus
-  pub unknowns : unknownsOf l ≤ mostUnknowns
-  pub equations : length (equationsIn l) ≤ mostEquations
-  pub shaped : Shaped (unknownsOf l) (equationsIn l)
-
-pub reads-small : (s : Sheet) → T (isOpened (ledgerOf s)) → Small (ledgerOf s)
-reads-small s is =
-    let reads = opened-readable s is in
-    let f = readable-fit s reads in
-    subst Small (sym (ledger-opened s reads))
-    (record {
-      positive = omega (arith, f .modulus);
-      largest = f .largest;
-      unknowns = f .unknowns;
-      equations = omega (arith, f .equations, equations-count (heldIn s) (unknownsIn s) (linesIn s) (length-lines s f));
-      shaped = equations-shaped (unknownsIn s) (linesIn s);
-    })
-
-abbrev pub blockIn : Ledger → List ℕ
+abbrev blockIn : Ledger → List ℕ
 blockIn l = blockOf (modulusOf l) (unknownsOf l) (equationsIn l)
 
 answer-words : (l : Ledger) → T (isOpened l) → answerWords l ≡ blockWords (blockIn l)
@@ -95,15 +70,15 @@ module _ (l : Ledger) (b : Answer) (made : b ≡ answerOf (modulusOf l) (unknown
           length-take-le (b .len) (b .numbers) solved-whole,
         )
 
-  module _ (small : Small l) where
+  module _ (allowed : Allowed (modulusOf l) (unknownsOf l) (equationsIn l)) where
     pub solved-head : b .head ≤ largestHead
-    solved-head = omega (arith, head-is, block-head (modulusOf l) (unknownsOf l) (equationsIn l), small .unknowns)
+    solved-head = omega (arith, head-is, block-head (modulusOf l) (unknownsOf l) (equationsIn l), allowed .unknowns)
 
     pub solved-below : Below numbersOfAKind (take (b .len) (b .numbers))
     solved-below =
-        below-mono (modulusOf l) numbersOfAKind (take (b .len) (b .numbers)) (omega (arith, small .largest))
+        below-mono (modulusOf l) numbersOfAKind (take (b .len) (b .numbers)) (omega (arith, allowed .largest))
         (subst (λ (z : List ℕ). Below (modulusOf l) (drop 1 z)) (sym solved-block)
-        (block-below (modulusOf l) (unknownsOf l) (equationsIn l) (small .positive) (small .shaped)))
+        (block-below (modulusOf l) (unknownsOf l) (equationsIn l) (omega (arith, allowed .modulus)) (allowed .shaped)))
 
 pub shown-block : (l : Ledger) (w : ℕ) → refusalOf l (queries (answersFromTape w)) ≡ 0
     → shownOf l w .block ≡ answerOf (modulusOf l) (unknownsOf l) (equationsIn l)

@@ -80,13 +80,8 @@ pub record RightMark (m n : ℕ) (es : List Equation) (claim : Claim) (marked : 
   pub passed : (marked ≡ Gets Pass) ↔ DescribesSolutions m n es claim
   pub failed : (marked ≡ Gets Fail) ↔ (DescribesSolutions m n es claim → ⊥)
 
--- What demand 3 says after a list of calls.
-pub record Promised (calls : List Call) : Type 0 where
-  -- "take the equations that 01's ledger holds after it"
-  pub m : ℕ
-  pub n : ℕ
-  pub es : List Equation
-  pub holds : ledger calls ≡ opened m n es
+-- What demand 3 says of a sheet whose ledger has m, n and es.
+pub record RightSheet (s : Sheet) (m n : ℕ) (es : List Equation) : Type 0 where
   pub allowed : Allowed m n es
   -- the block that answers them
   pub block : List ℕ
@@ -94,15 +89,22 @@ pub record Promised (calls : List Call) : Type 0 where
   pub fits : length block ≤ longestBlock
   -- "An answer asked for then, into a long enough buffer" that held `old`: "Buffer long enough for this block? 8"
   pub answer : (old : List ℕ) → length block ≤ length old
-      → (answeredOf (ledgerOf (after calls)) old ≡ Wrote (length block))
-      × (bufferAfter (ledgerOf (after calls)) old ≡ over block old)
-  pub short : (old : List ℕ) → length old < length block
-      → answeredOf (ledgerOf (after calls)) old ≡ Answered·Refused 8
+      → (answeredOf (ledgerOf s) old ≡ Wrote (length block)) × (bufferAfter (ledgerOf s) old ≡ over block old)
+  pub short : (old : List ℕ) → length old < length block → answeredOf (ledgerOf s) old ≡ Answered·Refused 8
   -- the same from tape, with a word whose number is 0: its numbers; "on tape it always is" long enough
-  pub answerFromTape : (w : ℕ) → T (plain w) → Shows block (shownOf (ledgerOf (after calls)) w)
+  pub answerFromTape : (w : ℕ) → T (plain w) → Shows block (shownOf (ledgerOf s) w)
   -- "And a well-formed claim marked then"
   pub mark : (ws : List ℕ) → WellFormed m n ws
-      → RightMark m n es (claimFrom n (wordsIn ws)) (markedOf (ledgerOf (after calls)) ws)
+      → RightMark m n es (claimFrom n (wordsIn ws)) (markedOf (ledgerOf s) ws)
+
+-- What demand 3 says after a list of calls.
+pub record Promised (calls : List Call) : Type 0 where
+  -- "take the equations that 01's ledger holds after it"
+  pub m : ℕ
+  pub n : ℕ
+  pub es : List Equation
+  pub holds : ledger calls ≡ opened m n es
+  pub right : RightSheet (after calls) m n es
 
 -- "For every list of the calls open, add, strike, answer and mark from a fresh sheet, refused calls anywhere in it and
 -- at least one opening accepted"
@@ -147,6 +149,10 @@ OwnBlockPasses =
 abbrev pub ZerosAreFresh : Type 0
 ZerosAreFresh = (replicate size 0 ≡ after []) × (ledgerOf (replicate size 0) ≡ unopened)
 
--- Whatever numbers the memory holds at first, calls go on from the ledger that they read as.
+-- Whatever numbers the memory holds: where they read as an opened sheet, answers and marks are right.
+abbrev pub RightAlways : Type 0
+RightAlways = (s : Sheet) (m n : ℕ) (es : List Equation) → ledgerOf s ≡ opened m n es → RightSheet s m n es
+
+-- And calls go on from the ledger that they read as.
 abbrev pub ReadsOn : Type 0
 ReadsOn = (s : Sheet) (calls : List Call) → ledgerOf (sheetFrom s calls) ≡ ledgerFrom (ledgerOf s) calls

@@ -13,7 +13,7 @@ use Rattle.ledger.specs.Ledger.{Ledger, unopened, opened, mostEquations}
 use Rattle.ledger.specs.Questions.{allowedUnknowns}
 use Rattle.ledger.specs.History.{Effect, begins, gains, loses}
 
--- what the memory holds
+-- what the memory holds; the code's type of this name has these numbers
 abbrev pub Sheet : Type 0
 Sheet = List ℕ
 
@@ -23,7 +23,7 @@ room = 288
 
 -- the numbers of a sheet: the modulus, the unknowns, how many equations it holds, and its cells
 abbrev pub size : ℕ
-size = 291
+size = 3 + room
 
 abbrev pub modulusIn : Sheet → ℕ
 modulusIn s = getD s 0 0
@@ -52,7 +52,7 @@ cellsOf s k = k * (unknownsIn s + 1)
 abbrev pub linesIn : Sheet → List ℕ
 linesIn s = take (cellsOf s (heldIn s)) (cellsIn s)
 
--- whether the numbers that count are such as calls put there
+-- whether the numbers that count are such as calls put there; memory always has `size` of them
 abbrev pub readable : Sheet → Bool
 readable s =
     allowedModulus (modulusIn s) && allowedUnknowns (unknownsIn s) && leb (heldIn s) mostEquations

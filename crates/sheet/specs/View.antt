@@ -3,7 +3,7 @@ use mathlib.Core.Path.{_≡_}
 use mathlib.Core.List.{List}
 use Prim.Native.Nat.{ℕ, _-_, _≤_}
 use lib.Dec.{T}
-use lib.ListN.{length, take, drop}
+use lib.ListN.{length, take}
 use Rattle.equations.specs.Lines.{equationsOf}
 use Rattle.system.specs.Posed.{Posed}
 use Rattle.ledger.specs.Ledger.{isOpened, equationsIn}
@@ -11,11 +11,11 @@ use Rattle.asking.specs.Sees.{Sees}
 use Rattle.sheet.specs.declared.Entered.{Entered}
 use Rattle.sheet.specs.declared.Entered.the-variants.{Holds, Refused}
 use Rattle.sheet.specs.declared.viewing.View.{View}
-use Rattle.sheet.specs.Record.{Sheet, ledgerOf}
+use Rattle.sheet.specs.Record.{Sheet, cellsIn, ledgerOf}
 
 -- the numbers between the place where the cells begin and an end
 abbrev pub linesTo : ℕ → Sheet → List ℕ
-linesTo end s = take (end - 3) (drop 3 s)
+linesTo end s = take (end - 3) (cellsIn s)
 
 -- what the questions see; and of an opened sheet where the ledger's equations end, which may be asked about
 pub record Views (s : Sheet) (view : View) : Type 0 where

@@ -17,7 +17,7 @@ use questions::is_modulus;
 use system::residues::all_below;
 
 // What the questions see, and the place behind the equations, which lie from the first cell on, each n coefficients and a right side.
-pub struct View {
+pub(crate) struct View {
     pub seen: Seen,
     pub end: usize,
 }
@@ -43,7 +43,7 @@ impl Sheet {
         }
     }
 
-    pub fn view(sheet: &[u32; Sheet::SIZE]) -> View
+    pub(crate) fn view(sheet: &[u32; Sheet::SIZE]) -> View
         ensures { λ r. ⌜ Views (now (sheet .entry)) r ⌝ }
         ensures { λ r. ⌜ r .seen .unknowns ≤ mostUnknowns ⌝ }
     {

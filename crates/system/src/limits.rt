@@ -6,9 +6,6 @@ pub const UNKNOWNS: usize = 16;
 // The numbers of a line: a coefficient for each unknown, and the right side.
 pub const LINE: usize = UNKNOWNS + 1;
 
-// The numbers of all lines.
-pub const CELLS: usize = EQUATIONS * LINE;
-
 // The vectors of a claim or a block: a starting vector, and a step for each place.
 pub const VECTORS: usize = UNKNOWNS + 1;
 

@@ -1,7 +1,8 @@
 -- What an answer from tape prints, from the numbers that it shows.
 --   refused-shown    one that shows a refusal prints it
 --   shown-whole      another has a block whose numbers lie in the array,
---   shown-lines      which prints what the call prints
+--   shown-can        which can be printed,
+--   shown-lines      and prints what the call prints
 use mathlib.Core.Path.{_≡_, sym, ap, _∙_}
 use mathlib.Core.List.{List, _∷_}
 use Prim.Native.Nat.{ℕ, _≤_}
@@ -13,6 +14,7 @@ use Rattle.system.specs.declared.solving.Answer.{Answer}
 use Rattle.system.specs.Block.{answerOf}
 use Rattle.system.proofs.Block.{block-vectors, block-length}
 use Rattle.ledger.specs.Ledger.{Ledger, isOpened, modulusOf, unknownsOf, equationsIn}
+use Rattle.ledger.specs.Allowed.{Allowed}
 use Rattle.ledger.specs.Calls.{answersFromTape, queries}
 use Rattle.ledger.specs.Questions.{refusalOf}
 use Rattle.ledger.proofs.Questions.{accepted-yes}
@@ -20,7 +22,8 @@ use Rattle.sheet.specs.declared.answering.Shown.{Shown}
 use Rattle.sheet.specs.Record.{Sheet, ledgerOf}
 use Rattle.sheet.specs.Calls.{shownOf}
 use Rattle.sheet.proofs.Answers.{shown-refusal}
-use Rattle.sheet.proofs.Solved.{Small, reads-small, solved-block, solved-whole, solved-head, shown-block}
+use Rattle.sheet.proofs.Reading.{reads-allowed}
+use Rattle.sheet.proofs.Solved.{solved-block, solved-whole, solved-head, shown-block}
 use Rattle.tape.specs.Output.{refusedLine, blockLines, callLines}
 use Rattle.tape.specs.Reader.{linesOn}
 use Rattle.tape.specs.Model.Handed.{Block}
@@ -44,8 +47,8 @@ module _ (s : Sheet) (w : ℕ) {shown : Shown} (is : shown ≡ shownOf (ledgerOf
     opened : T (isOpened l)
     opened = accepted-yes l (queries (answersFromTape w)) accepted .0
 
-    small : Small l
-    small = reads-small s opened
+    allowed : Allowed (modulusOf l) (unknownsOf l) (equationsIn l)
+    allowed = reads-allowed s opened
 
     abbrev b : Answer
     b = shown .block
@@ -63,15 +66,15 @@ module _ (s : Sheet) (w : ℕ) {shown : Shown} (is : shown ≡ shownOf (ledgerOf
           let head = ap (λ (z : List ℕ). getD z 0 0) whole in
           rw same
           (record {
-            unknowns = small .unknowns;
+            unknowns = allowed .unknowns;
             short =
                 omega (
                   arith,
                   ap length whole,
-                  block-length (modulusOf l) (unknownsOf l) (equationsIn l) (small .positive) (small .shaped) (small .equations)
-                      (small .unknowns),
+                  block-length (modulusOf l) (unknownsOf l) (equationsIn l) (omega (arith, allowed .modulus)) (allowed .shaped) (allowed .equations)
+                      (allowed .unknowns),
                 );
-            largest = solved-head l b made small;
+            largest = solved-head l b made allowed;
             vectors =
                 rw head (omega (arith, ap length whole, block-vectors (modulusOf l) (unknownsOf l) (equationsIn l)));
           })

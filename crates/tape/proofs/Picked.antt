@@ -1,9 +1,9 @@
 -- The call that is picked, and the call that is read from the rest of a tape.
---   picks-few, picks-none  the kinds that have no meaning pick nothing
+--   picks-few, picks-none      the kinds that have no meaning pick nothing
 --   picked-told, picked-call   what is told of one call is told of the call that is picked
---   next-picks, next-wants what the first word picks, and how many words that takes
---   next-call, next-used   the call read, and the bytes of its words
---   stepped                the reader's step, put together
+--   next-picks, next-wants     what the first word picks, and how many words that takes
+--   next-call, next-used       the call read, and the bytes of its words
+--   stepped                    the reader's step, put together
 use mathlib.Core.Path.{_≡_, sym, ap, subst, _∙_}
 use mathlib.Core.Logic.{_⊎_, ⊎-elim}
 use mathlib.Core.List.{List}

@@ -3,19 +3,20 @@
 --   lines-remaining     those of the whole tape are its lines
 --   remaining-step      the lines of the first call, and what remains behind it
 --   remaining-end       less than a word prints the line of the bytes left over
---   used-some, -fits    a step takes a word at least, and no more than there is
+--   usedBy              the bytes that a step takes
+--   used-some, -fits    a word at least, and no more than there is
 use mathlib.Core.Path.{_≡_, refl, sym, ap, _∙_}
 use mathlib.Core.List.{List, [], _∷_, _++_, append-assoc}
 use Prim.Native.Nat.{ℕ, zero, suc, _*_, _/_, _%_, _≤_, _<_, min}
 use native.Mathlib.Omega.{arith}
 use borrow.Author.Tests.{le-leb}
 use lib.ListN.{length, take, drop, getD, length-take, length-drop}
-use Rattle.ledger.specs.Ledger.{Ledger, unopened}
+use Rattle.ledger.specs.Ledger.{Ledger}
 use Rattle.ledger.specs.Calls.{Call}
-use Rattle.ledger.specs.History.{enter, ledgerFrom}
+use Rattle.ledger.specs.History.{enter}
 use Rattle.sheet.specs.Record.{Sheet, fresh, ledgerOf}
-use Rattle.sheet.specs.History.{left, sheetFrom}
-use Rattle.sheet.proofs.History.{left-reads, after-reads}
+use Rattle.sheet.specs.History.{left}
+use Rattle.sheet.proofs.History.{left-reads, fresh-unopened}
 use Rattle.tape.specs.Bytes.{wordsOn}
 use Rattle.tape.specs.FirstCall.{wanted, behindFirst}
 use Rattle.tape.specs.Counted.Calls.{wanted-some}
@@ -26,10 +27,6 @@ use Rattle.tape.proofs.OnTape.{words-length, words-behind}
 
 abbrev pub remaining : Ledger → List ℕ → List ℕ
 remaining l rest = linesFrom l (callsOn l (wordsOn rest)) ++ leftOverLine rest
-
-pub fresh-unopened : ledgerOf fresh ≡ unopened
-unfolding sheetFrom ledgerFrom
-fresh-unopened = after-reads []
 
 pub lines-remaining : (tape : List ℕ) → length tape ≤ mostBytes → lines tape ≡ remaining (ledgerOf fresh) tape
 unfolding lines

@@ -3,7 +3,7 @@
 --   step-written                  its lines are as many bytes as it says, and lie at the front of what was written
 --   step-fits                     so they fit
 --   step-remaining, step-counts   and are taken off what remains
---   none-over, some-over          the line of the bytes left over, if there are any
+--   none-over, none-over-length, some-over   the line of the bytes left over, if there are any
 use mathlib.Core.Path.{_≡_, sym, ap, ap₂, _∙_}
 use mathlib.Core.List.{List, _++_}
 use Prim.Native.Nat.{ℕ, _+_, _%_, _≤_}

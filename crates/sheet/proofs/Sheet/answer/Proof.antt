@@ -12,7 +12,8 @@ use Rattle.slices.specs.Over.{over}
 use Rattle.equations.proofs.Truth.{of-true}
 use Rattle.sheet.specs.declared.answering.Answered.the-variants.{Wrote}
 use Rattle.sheet.specs.Record.{ledgerOf}
-use Rattle.sheet.proofs.Solved.{reads-small, solved-whole, solved-words, solved-size, solved-head, solved-start, solved-below}
+use Rattle.sheet.proofs.Reading.{reads-allowed}
+use Rattle.sheet.proofs.Solved.{solved-whole, solved-words, solved-size, solved-head, solved-start, solved-below}
 use Rattle.sheet.proofs.Answers.{answered-unopened, answered-short, answered-wrote}
 use Rattle.sheet.proofs.Sheet.answer.Statement.{statement}
 use Rattle.sheet.proofs.Sheet.answer.Tie as tie
@@ -65,14 +66,14 @@ write-block-requires c κs =
     let view = c .before .before .before .before .before .before .before .before .before .view .ensures .0 in
     let opens = sym (view .sees .opened) ∙ not-false _ (c .before .before .before .before .before .before .if1 .left) in
     let block = c .before .before .before .before .block-of in
-    let small = reads-small (now (a .sheet)) (of-true opens) in
+    let allowed = reads-allowed (now (a .sheet)) (of-true opens) in
     let long = length-take-le (block .result .len) (block .result .numbers) (solved-whole l (block .result) (block .ensures)) in (
       (
-        solved-head l (block .result) (block .ensures) small,
+        solved-head l (block .result) (block .ensures) allowed,
         (λ some. omega (arith, long, view .sees .unknowns, solved-start l (block .result) (block .ensures) some)),
         omega (arith, long),
       ),
-      solved-below l (block .result) (block .ensures) small,
+      solved-below l (block .result) (block .ensures) allowed,
     )
 
 same-length : tie.Need-same-length

@@ -4,7 +4,8 @@ use Prim.Native.Nat.{ℕ, _+_}
 use native.Mathlib.Omega.{arith}
 use borrow.Author.Needs.{needs}
 use denote.Ref.{now}
-use Rattle.sheet.proofs.Cells.{lines-size, whole, filled-small, line-room, line-written}
+use Rattle.sheet.proofs.Reading.{lines-size}
+use Rattle.sheet.proofs.Cells.{whole, filled-small, line-room, line-written}
 use Rattle.sheet.proofs.adding.with_line.Statement.{statement}
 use Rattle.sheet.proofs.adding.with_line.Tie as tie
 

@@ -5,7 +5,8 @@ use Prim.Native.Nat.{ℕ, _+_, _-_, _*_}
 use native.Mathlib.Omega.{arith}
 use borrow.Author.Needs.{needs}
 use denote.Ref.{now}
-use Rattle.sheet.proofs.Cells.{lines-size, whole, filled-small, width-small, place-fits, moving-fits, moved-up}
+use Rattle.sheet.proofs.Reading.{lines-size}
+use Rattle.sheet.proofs.Cells.{whole, filled-small, width-small, place-fits, moving-fits, moved-up}
 use Rattle.sheet.proofs.striking.without_line.Statement.{statement}
 use Rattle.sheet.proofs.striking.without_line.Tie as tie
 

@@ -1,0 +1,38 @@
+/* milebadger_sentence: every refusal has a sentence of its own, every other result one of two. */
+#include <stdio.h>
+#include <string.h>
+
+#include "milebadger.h"
+
+static int fault(int64_t result, const char *sentence)
+{
+    printf("sentences.c: %lld: %s\n", (long long)result, sentence);
+    return 1;
+}
+
+int main(void)
+{
+    const int64_t refused[] = {
+        MILEBADGER_REFUSED_SHAPE, MILEBADGER_REFUSED_MODULUS, MILEBADGER_REFUSED_UNKNOWNS, MILEBADGER_REFUSED_UNOPENED,
+        MILEBADGER_REFUSED_FULL, MILEBADGER_REFUSED_NUMBER, MILEBADGER_REFUSED_NOTHING_TO_STRIKE, MILEBADGER_REFUSED_BUFFER,
+        MILEBADGER_REFUSED_LEFT_OVER, MILEBADGER_REFUSED_TAPE,
+    };
+    const int64_t made[] = {MILEBADGER_FAIL, MILEBADGER_PASS, 16, INT64_MAX}, none[] = {-11, -12, INT64_MIN};
+    const char *sentence[10];
+
+    for (int i = 0; i < 10; i++) {
+        sentence[i] = milebadger_sentence(refused[i]);
+        if (refused[i] != -(i + 1) || strlen(sentence[i]) < 10)
+            return fault(refused[i], sentence[i]);
+        for (int j = 0; j < i; j++)
+            if (strcmp(sentence[i], sentence[j]) == 0)
+                return fault(refused[i], sentence[i]);
+    }
+    for (int i = 0; i < 4; i++)
+        if (strcmp(milebadger_sentence(made[i]), "done") != 0)
+            return fault(made[i], milebadger_sentence(made[i]));
+    for (int i = 0; i < 3; i++)
+        if (strcmp(milebadger_sentence(none[i]), "no result of this library") != 0)
+            return fault(none[i], milebadger_sentence(none[i]));
+    return 0;
+}
