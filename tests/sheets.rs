@@ -219,35 +219,34 @@ fn sheets_of_random_numbers_answer_every_call() {
     }
 }
 
-#[test]
-fn sheets_with_numbers_replaced_answer_every_call() {
+/// Each call, and a list of calls, on 2,500 sheets of a kind. Each fault is there alone at least so often, and every refusal is seen.
+fn expect_kind(least: usize, numbers_of: impl Fn(&mut Random) -> Vec<u32>) {
     let mut random = Random::new();
     let (mut tally, mut sheets) = (Tally::new(), vec![]);
     for _ in 0..2_500 {
-        let mut numbers = made(&mut random);
-        for _ in 0..1 + random.below(3) {
-            disturb(&mut random, &mut numbers);
-        }
+        let numbers = numbers_of(&mut random);
         expect_each(&mut random, &numbers, &mut tally);
         expect_list(&mut random, &numbers, &mut tally);
         sheets.push(numbers);
     }
-    expect_faults(&sheets, 100);
+    expect_faults(&sheets, least);
     assert_eq!(tally, all_refusals(), "refusals seen, and refusals to be seen");
 }
 
 #[test]
+fn sheets_with_numbers_replaced_answer_every_call() {
+    expect_kind(100, |random| {
+        let mut numbers = made(random);
+        for _ in 0..1 + random.below(3) {
+            disturb(random, &mut numbers);
+        }
+        numbers
+    });
+}
+
+#[test]
 fn plausible_sheets_answer_every_call() {
-    let mut random = Random::new();
-    let (mut tally, mut sheets) = (Tally::new(), vec![]);
-    for _ in 0..2_500 {
-        let numbers = plausible(&mut random);
-        expect_each(&mut random, &numbers, &mut tally);
-        expect_list(&mut random, &numbers, &mut tally);
-        sheets.push(numbers);
-    }
-    expect_faults(&sheets, 50);
-    assert_eq!(tally, all_refusals(), "refusals seen, and refusals to be seen");
+    expect_kind(50, plausible);
 }
 
 #[test]

@@ -2,7 +2,6 @@
 --   equations-none, equations-more   a list without a whole line, and with one
 --   equation-front                   an equation is read off the line alone
 --   equations-shaped                 each has n coefficients
---   shaped-snoc, shaped-take         so has each of a longer list, and of a shorter one
 --   length-equations                 there is one for each n + 1 numbers
 --   equations-few                    at most 16 of them
 --   equations-count                  c whole lines are c of them
@@ -48,16 +47,6 @@ shaped-within (suc c) n s h =
 pub equations-shaped : (n : ℕ) (s : List ℕ) → Shaped n (equationsOf n s)
 unfolding equationsOf
 equations-shaped n s = shaped-within (length s / suc n) n s (div-mul-le-self (length s) (suc n))
-
-pub shaped-snoc : (n : ℕ) (es : List Equation) (e : Equation) → Shaped n es → length (e .coefficients) ≡ n
-    → Shaped n (es ++ (e ∷ []))
-shaped-snoc n [] e h long = (long, tt)
-shaped-snoc n (f ∷ es) e h long = (h .0, shaped-snoc n es e (h .1) long)
-
-pub shaped-take : (n k : ℕ) (es : List Equation) → Shaped n es → Shaped n (take k es)
-shaped-take n zero es h = tt
-shaped-take n (suc k) [] h = tt
-shaped-take n (suc k) (e ∷ es) h = (h .0, shaped-take n k es (h .1))
 
 length-within : (c n : ℕ) (s : List ℕ) → length (equationsWithin c n s) ≡ c
 length-within zero n s = refl

@@ -63,7 +63,7 @@ enter-accepted l e none = rw none
 
 -- ---- how many equations there are then
 
-pub without-length : {A : Type 0} (j : ℕ) (xs : List A) → j < length xs → length (without j xs) ≡ length xs - 1
+without-length : {A : Type 0} (j : ℕ) (xs : List A) → j < length xs → length (without j xs) ≡ length xs - 1
 without-length j xs h =
     omega (arith, length-append (take j xs) (drop (suc j) xs), length-take-le j xs (omega arith), length-drop (suc j) xs)
 

@@ -1,7 +1,4 @@
--- The ledger after a list of calls.
---   ledger-append     the calls of a longer list, one part after the other
---   ledger-keeps      what no effect destroys, holds after every list
---   opening-opens     once opened, always opened
+-- The ledger after a list of calls: once opened, always opened, `opening-opens`.
 use mathlib.Core.Path.{_≡_, refl, sym, subst}
 use mathlib.Core.Bool.{Bool, true, false, cond}
 use mathlib.Core.List.{List, [], _∷_, _++_}
@@ -22,7 +19,7 @@ unfolding ledgerFrom
 from-append l [] ys = refl
 from-append l (c ∷ xs) ys = from-append (enter l c) xs ys
 
-pub ledger-append : (xs ys : List Call) → ledger (xs ++ ys) ≡ ledgerFrom (ledger xs) ys
+ledger-append : (xs ys : List Call) → ledger (xs ++ ys) ≡ ledgerFrom (ledger xs) ys
 ledger-append xs ys = from-append unopened xs ys
 
 module _ (P : Ledger → Type 0) (keeps : (l : Ledger) (e : Effect) → P l → Allows l e → P (changed l e)) where
@@ -38,7 +35,7 @@ module _ (P : Ledger → Type 0) (keeps : (l : Ledger) (e : Effect) → P l → 
       go true accepted = accepted refl
       go false accepted = h
 
-  pub ledger-keeps : (l : Ledger) (calls : List Call) → P l → P (ledgerFrom l calls)
+  ledger-keeps : (l : Ledger) (calls : List Call) → P l → P (ledgerFrom l calls)
   unfolding ledgerFrom
   ledger-keeps l [] h = h
   ledger-keeps l (c ∷ calls) h = ledger-keeps (enter l c) calls (enter-keeps l c h)

@@ -8,4 +8,3 @@ pub mod Questions
 pub mod Refusals
 pub mod Effects
 pub mod History
-pub mod Sound

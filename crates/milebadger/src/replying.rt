@@ -1,5 +1,4 @@
-// How an answer goes back to C: a signed result, and numbers in the memory that the caller lent.
-// Nothing else writes there.
+// How an answer goes back to C: as a signed result, and where a call has numbers to give, in the memory that the caller lent.
 ghost use mathlib.Core.Path.{_≡_};
 ghost use mathlib.Core.List.{_∷_};
 ghost use Prim.Native.Nat.{_≤_};

@@ -1,8 +1,6 @@
 -- A mark is right: what demand 3 says of it.
---   marked-accepted    an accepted claim gets its mark
 --   well-accepted      a well-formed claim is accepted
---   well-described     and passes exactly when it describes the solutions of the ledger's equations
---   mark-tells         so what is a function of its mark tells
+--   mark-tells         and what is a function of its mark tells whether it describes the solutions of the ledger's equations
 --   right-mark         so it is marked
 --   own-mark           an answer's own words, where there is a solution, are passed
 use mathlib.Core.Path.{_≡_, refl, ap, _∙_}
@@ -37,7 +35,7 @@ use Rattle.sheet.specs.declared.marking.Marked.the-variants.{Gets}
 use Rattle.sheet.specs.Calls.{markedOf}
 use Rattle.sheet.specs.Promises.{WellFormed, DescribesSolutions, RightMark}
 
-pub marked-accepted : (l : Ledger) (ws : List ℕ) → refusalOf l (queries (marks ws)) ≡ 0 → markedOf l ws ≡ Gets (claimMark l ws)
+marked-accepted : (l : Ledger) (ws : List ℕ) → refusalOf l (queries (marks ws)) ≡ 0 → markedOf l ws ≡ Gets (claimMark l ws)
 unfolding markedOf
 marked-accepted l ws accepted = rw accepted
 
@@ -55,7 +53,7 @@ module _ (m n : ℕ) (es : List Equation) where
       marks-accepted (opened m n es) refl ws (true-of (isClaim n (wordsIn ws)) (well .0))
       (true-of (allBelow m (entriesOf (wordsIn ws))) (well .1))
 
-  pub well-described : 0 < m → (ws : List ℕ) → WellFormed m n ws
+  well-described : 0 < m → (ws : List ℕ) → WellFormed m n ws
       → T (passes m n es (claimFrom n (wordsIn ws))) ↔ DescribesSolutions m n es (claimFrom n (wordsIn ws))
   well-described pos ws well =
       passes-described m n es (claimFrom n (wordsIn ws))

@@ -1,4 +1,4 @@
--- What each call gives back, and what it leaves of the sheet and of lent memory. But for the sheet's new record, all of it is
+-- What each call gives back, and what it leaves of the sheet and of lent memory. But for the sheet's new numbers, all of it is
 -- said of the ledger that the sheet reads as. Definitions only.
 use mathlib.Core.List.{List, [], _∷_}
 use Prim.Native.Nat.{ℕ}

@@ -28,9 +28,11 @@ use Rattle.ledger.specs.Calls.{Call, marks, answersFromTape, queries}
 use Rattle.ledger.specs.Questions.{plain}
 use Rattle.ledger.specs.History.{enter, ledgerFrom, ledger}
 use Rattle.ledger.proofs.Refusals.{answers-word-plain}
-use Rattle.ledger.proofs.Sound.{ledger-sound}
 use Rattle.sheet.specs.Promises.{NothingSolves, WellFormed}
+use Rattle.sheet.specs.History.{after}
+use Rattle.sheet.proofs.History.{after-reads}
 use Rattle.sheet.proofs.Marks.{well-accepted, mark-tells}
+use Rattle.sheet.proofs.Promises.{right-always}
 use Rattle.tape.specs.Text.{line, lineOf}
 use Rattle.tape.specs.Output.{blockLines, stepLines, markLine, answerLines, callLines, linesFrom}
 use Rattle.tape.specs.Promises.{CallPrinted, AnswerPrinted, AnswersPrinted, MarkPrinted, MarksPrinted}
@@ -68,7 +70,7 @@ module _ (m n : ℕ) (es : List Equation) where
 
   module _ (calls : List Call) (holds : ledger calls ≡ opened m n es) where
     allowed : Allowed m n es
-    allowed = ledger-sound calls m n es holds
+    allowed = right-always (after calls) m n es (after-reads calls ∙ holds) .allowed
 
     positive : 0 < m
     positive = omega (arith, allowed .modulus)

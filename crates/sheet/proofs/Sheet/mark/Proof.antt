@@ -36,18 +36,6 @@ array-read-wide c = search needs
 wide-requires : tie.Need-wide-requires
 wide-requires c κs = search needs
 
-mul-end : tie.Need-mul-end
-mul-end c =
-    let a = c .before .before .before .before .before .before .before .before .args in
-    let s = now (a .sheet) in
-    let ws = now (a .words) in
-    let view = c .before .before .before .before .before .before .view .ensures .0 in
-    let asked = c .before .before .before .mark-refusal .ensures in
-    let accepted = sym (asked .0 (ledgerOf s) (view .sees)) ∙ c .before .if1 .left in
-    let end = mark-end (ledgerOf s) ws accepted (unknowns-few s) (replicate claimRoom 0) (asked .1) (view .sees) (c .wide .result)
-    (c .wide .ensures) in
-    omega (arith, end)
-
 add-end : tie.Need-add-end
 add-end c =
     let a = c .before .before .before .before .before .before .before .before .args in
@@ -59,6 +47,9 @@ add-end c =
     let end = mark-end (ledgerOf s) ws accepted (unknowns-few s) (replicate claimRoom 0) (asked .1) (view .sees) (c .wide .result)
     (c .wide .ensures) in
     omega (arith, end)
+
+mul-end : tie.Need-mul-end
+mul-end c = omega (arith, add-end c)
 
 sub-mark : tie.Need-sub-mark
 sub-mark c = search needs

@@ -52,11 +52,7 @@ sub-rest c =
     step-bytes (l .sheet) rest (omega arith) (step .ensures .0) .1
 
 part-rest-start : tie.Need-part-rest-start Inv-loop μ-loop
-part-rest-start c =
-    let l = c .before .before .before .before .before .loop in
-    let step = c .before .next in
-    let rest = l .rest .now in
-    step-bytes (l .sheet) rest (omega arith) (step .ensures .0) .1
+part-rest-start c = sub-rest c
 
 part-rest-end : tie.Need-part-rest-end Inv-loop μ-loop
 part-rest-end c = search needs

@@ -56,11 +56,7 @@ sub-rest c =
     step-bytes (l .sheet) rest (omega arith) (step .ensures .0) .1
 
 part-rest-start : tie.Need-part-rest-start Inv-loop μ-loop
-part-rest-start c =
-    let l = c .before .before .before .before .before .loop in
-    let step = c .before .next in
-    let rest = l .rest .now in
-    step-bytes (l .sheet) rest (omega arith) (step .ensures .0) .1
+part-rest-start c = sub-rest c
 
 part-rest-end : tie.Need-part-rest-end Inv-loop μ-loop
 part-rest-end c = search needs
@@ -86,9 +82,7 @@ sub-copy-bytes c =
     omega (arith, room-behind (l .inv .2) (c .before .before .before .before .before .before .before .before .before .before .before .before .pre .1) (l .inv .1))
 
 part-copy-bytes-start : tie.Need-part-copy-bytes-start Inv-loop μ-loop
-part-copy-bytes-start c =
-    let l = c .before .before .before .before .before .before .before .loop in
-    omega (arith, room-behind (l .inv .2) (c .before .before .before .before .before .before .before .before .before .before .before .before .pre .1) (l .inv .1))
+part-copy-bytes-start c = sub-copy-bytes c
 
 part-copy-bytes-end : tie.Need-part-copy-bytes-end Inv-loop μ-loop
 part-copy-bytes-end c = search needs
@@ -153,9 +147,7 @@ sub-copy-bytes-2 c =
     omega (arith, room-behind (l .inv .2) (c .before .before .before .before .before .before .before .before .before .before .pre .1) (l .inv .1))
 
 part-copy-bytes-start-2 : tie.Need-part-copy-bytes-start-2 Inv-loop μ-loop
-part-copy-bytes-start-2 c =
-    let l = c .before .before .before .before .before .loop in
-    omega (arith, room-behind (l .inv .2) (c .before .before .before .before .before .before .before .before .before .before .pre .1) (l .inv .1))
+part-copy-bytes-start-2 c = sub-copy-bytes-2 c
 
 part-copy-bytes-end-2 : tie.Need-part-copy-bytes-end-2 Inv-loop μ-loop
 part-copy-bytes-end-2 c = search needs
