@@ -11,7 +11,7 @@ use std::time::{Duration, Instant};
 
 /// The header's milebadger_sheet.
 #[repr(C)]
-#[derive(Clone, Copy)]
+#[derive(Clone, Copy, PartialEq)]
 struct Sheet {
     numbers: [u32; 291],
 }
@@ -19,6 +19,7 @@ struct Sheet {
 extern "C" {
     fn milebadger_open(sheet: *mut Sheet, words: *const u32, words_len: usize) -> i64;
     fn milebadger_add(sheet: *mut Sheet, words: *const u32, words_len: usize) -> i64;
+    fn milebadger_add_text(sheet: *mut Sheet, text: *const u8, text_len: usize) -> i64;
     fn milebadger_answer(sheet: *const Sheet, out: *mut u32, out_len: usize) -> i64;
     fn milebadger_mark(sheet: *const Sheet, words: *const u32, words_len: usize) -> i64;
     fn milebadger_tape(tape: *const u8, tape_len: usize, out: *mut u8, out_len: usize) -> i64;
@@ -28,6 +29,8 @@ extern "C" {
 enum Call {
     /// The last of n lines, to a sheet that holds the others.
     Add,
+    /// The same line, typed.
+    AddText,
     Answer,
     /// Of the block that the answer writes.
     Mark,
@@ -44,6 +47,7 @@ impl Case {
     fn name(&self) -> String {
         let call = match self.call {
             Call::Add => "add",
+            Call::AddText => "add_text",
             Call::Answer => "answer",
             Call::Mark => "mark",
         };
@@ -53,7 +57,7 @@ impl Case {
 
 fn cases() -> Vec<Case> {
     let mut cases = vec![];
-    for call in [Call::Add, Call::Answer, Call::Mark] {
+    for call in [Call::Add, Call::AddText, Call::Answer, Call::Mark] {
         for m in [12, 65_521] {
             cases.extend([2, 4, 8, 16].map(|n| Case { call, m, n }));
         }
@@ -72,10 +76,19 @@ fn line(m: u32, solution: &[u64], random: &mut Random) -> Vec<u32> {
     coefficients.iter().map(|&a| word(3, a as u32)).chain([word(4, right as u32)]).collect()
 }
 
-/// A sheet before the call, the words of the call, and the tape that comes to the same.
+/// The line of these words as it is typed: 12*x1 + 7*x2 = 5.
+fn typed(line: &[u32]) -> String {
+    let (right, coefficients) = line.split_last().unwrap();
+    let terms: Vec<String> = coefficients.iter().zip(1..).map(|(a, j)| format!("{}*x{j}", a & 0x0FFF_FFFF)).collect();
+    format!("{} = {}", terms.join(" + "), right & 0x0FFF_FFFF)
+}
+
+/// A sheet before the call and after it, the words or the text of the call, and the tape that comes to the same.
 struct Work {
     sheet: Sheet,
+    after: Sheet,
     words: Vec<u32>,
+    text: String,
     tape: Vec<u8>,
 }
 
@@ -97,11 +110,12 @@ impl Work {
         block.truncate(usize::try_from(wrote).expect("a refusal"));
         let tape = [opening, lines.concat()].concat();
         let (sheet, words, asked) = match case.call {
-            Call::Add => (sheet, last.clone(), vec![]),
+            Call::Add | Call::AddText => (sheet, last.clone(), vec![]),
             Call::Answer => (full, vec![], vec![word(9, 0)]),
             Call::Mark => (full, block.clone(), block),
         };
-        Work { sheet, words, tape: [tape, asked].concat().iter().flat_map(|word| word.to_le_bytes()).collect() }
+        let tape = [tape, asked].concat().iter().flat_map(|word| word.to_le_bytes()).collect();
+        Work { sheet, after: full, words, text: typed(last), tape }
     }
 }
 
@@ -124,6 +138,7 @@ impl Calls {
         for i in 0..64 {
             let result = calls.call(i);
             assert!(calls.accepted(result), "{}: result {result}", case.name());
+            assert!(tapes || calls.sheets[i] == calls.works[i].after, "{}: another sheet", case.name());
         }
         calls
     }
@@ -132,10 +147,10 @@ impl Calls {
     fn accepted(&self, result: i64) -> bool {
         let lines = if self.tapes { std::str::from_utf8(&self.lines[..result as usize]).unwrap() } else { "" };
         match (self.tapes, self.case.call) {
-            (false, Call::Add) => result == self.case.n as i64,
+            (false, Call::Add | Call::AddText) => result == self.case.n as i64,
             (false, Call::Answer) => result > self.case.n as i64,
             (false, Call::Mark) => result == 1,
-            (true, Call::Add) => lines.ends_with(&format!("added {}\n", self.case.n)),
+            (true, Call::Add | Call::AddText) => lines.ends_with(&format!("added {}\n", self.case.n)),
             (true, Call::Answer) => lines.contains("\nfrom "),
             (true, Call::Mark) => lines.ends_with("\npass\n"),
         }
@@ -155,6 +170,7 @@ impl Calls {
                     milebadger_tape(work.tape.as_ptr(), work.tape.len(), self.lines.as_mut_ptr(), self.lines.len())
                 }
                 Call::Add => milebadger_add(sheet, words, len),
+                Call::AddText => milebadger_add_text(sheet, work.text.as_ptr(), work.text.len()),
                 Call::Answer => milebadger_answer(sheet, self.block.as_mut_ptr(), self.block.len()),
                 Call::Mark => milebadger_mark(sheet, words, len),
             }

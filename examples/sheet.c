@@ -7,7 +7,7 @@
 int main(void)
 {
     const uint32_t opening[] = {MILEBADGER_MODULUS(4), MILEBADGER_UNKNOWNS(2)};
-    const uint32_t equation[] = {MILEBADGER_COEFFICIENT(1), MILEBADGER_COEFFICIENT(2), MILEBADGER_RIGHT(0)};
+    const uint8_t equation[] = "x1 + 2*x2 = 0";
     const uint32_t claim[] = {MILEBADGER_HEAD(2), MILEBADGER_ENTRY(0), MILEBADGER_ENTRY(0),
                               MILEBADGER_ENTRY(2), MILEBADGER_ENTRY(3)};
     uint32_t block[MILEBADGER_LONGEST_BLOCK];
@@ -15,7 +15,7 @@ int main(void)
 
     int64_t result = milebadger_open(&sheet, opening, 2);
     if (result >= 0)
-        result = milebadger_add(&sheet, equation, 3);
+        result = milebadger_add_text(&sheet, equation, sizeof equation - 1);
     if (result >= 0)
         result = milebadger_answer(&sheet, block, MILEBADGER_LONGEST_BLOCK);
     for (int64_t i = 0; i < result; i++)

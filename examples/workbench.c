@@ -8,13 +8,13 @@
 #include "milebadger.h"
 
 #define UNKNOWNS 3 /* this workbench has no more letters */
-static const char unknown[] = "xyz", factor[] = "stu";
+static const char factor[] = "stu";
 
-/* The page keeps the lines that it shows: what a sheet's numbers stand for is the library's business. */
+/* The page keeps the lines as they were typed: what a sheet's numbers stand for is the library's business. */
 struct page {
-    const char *student;
+    const char *student, *lines[MILEBADGER_MOST_EQUATIONS];
     milebadger_sheet sheet;
-    uint32_t m, n, lines[MILEBADGER_MOST_EQUATIONS][UNKNOWNS + 1];
+    uint32_t m, n;
 };
 
 /* Whether a call was made. If not, the page says why, and nothing has changed. */
@@ -23,26 +23,6 @@ static bool made(int64_t result)
     if (result < 0)
         printf("    refused: %s\n", milebadger_sentence(result));
     return result >= 0;
-}
-
-/* 3 x, behind a plus where something stands in front; nothing for 0 x. Whether something stands there now. */
-static bool show_term(bool behind, uint32_t times, char letter)
-{
-    if (times == 0)
-        return behind;
-    printf("%s", behind ? " + " : "");
-    if (times != 1)
-        printf("%" PRIu32 " ", times);
-    printf("%c", letter);
-    return true;
-}
-
-static void show_line(const uint32_t *line, uint32_t n)
-{
-    bool behind = false;
-    for (uint32_t i = 0; i < n; i++)
-        behind = show_term(behind, line[i], unknown[i]);
-    printf("%s = %" PRIu32 "\n", behind ? "" : "0", line[n]);
 }
 
 static void open_sheet(struct page *page, uint32_t m, uint32_t n)
@@ -56,17 +36,12 @@ static void open_sheet(struct page *page, uint32_t m, uint32_t n)
     }
 }
 
-static void add_line(struct page *page, const uint32_t *line)
+static void type_line(struct page *page, const char *text)
 {
-    uint32_t n = page->n, words[UNKNOWNS + 1];
-    for (uint32_t i = 0; i < n; i++)
-        words[i] = MILEBADGER_COEFFICIENT(line[i]);
-    words[n] = MILEBADGER_RIGHT(line[n]);
-    printf("%s adds ", page->student);
-    show_line(line, n);
-    int64_t held = milebadger_add(&page->sheet, words, n + 1);
+    printf("%s types %s\n", page->student, text);
+    int64_t held = milebadger_add_text(&page->sheet, (const uint8_t *)text, strlen(text));
     if (made(held))
-        memcpy(page->lines[held - 1], line, (n + 1) * sizeof *line);
+        page->lines[held - 1] = text;
 }
 
 static void strike_line(struct page *page)
@@ -75,14 +50,23 @@ static void strike_line(struct page *page)
     made(milebadger_strike(&page->sheet, 0));
 }
 
+/* Behind what stands there already. */
+static void show_term(uint32_t times, char letter)
+{
+    if (times == 1)
+        printf(" + %c", letter);
+    else if (times > 1)
+        printf(" + %" PRIu32 "*%c", times, letter);
+}
+
 /* With d the first entry of a step that is not 0, its factor runs from 0 to m / d - 1: so each solution comes once. */
 static void show_solutions(const struct page *page, uint32_t vectors, const uint32_t *entries)
 {
     uint64_t solutions = 1;
     for (uint32_t i = 0; i < page->n; i++) {
-        printf("    %c = %" PRIu32, unknown[i], entries[i]);
+        printf("    x%" PRIu32 " = %" PRIu32, i + 1, entries[i]);
         for (uint32_t v = 1; v < vectors; v++)
-            show_term(true, entries[v * page->n + i], factor[v - 1]);
+            show_term(entries[v * page->n + i], factor[v - 1]);
         printf("\n");
     }
     for (uint32_t v = 1; v < vectors; v++) {
@@ -98,16 +82,9 @@ static void show_solutions(const struct page *page, uint32_t vectors, const uint
 /* The lines times their multipliers add up to one that nothing solves. */
 static void show_contradiction(const struct page *page, int64_t held, const uint32_t *multipliers)
 {
-    uint32_t sum[UNKNOWNS + 1] = {0};
-    for (int64_t k = 0; k < held; k++) {
-        printf("    %5" PRIu32 " times  ", multipliers[k]);
-        show_line(page->lines[k], page->n);
-        for (uint32_t i = 0; i <= page->n; i++)
-            sum[i] = (uint32_t)((sum[i] + (uint64_t)multipliers[k] * page->lines[k][i]) % page->m);
-    }
-    printf("    add up to    ");
-    show_line(sum, page->n);
-    printf("    no solution mod %" PRIu32 "\n", page->m);
+    for (int64_t k = 0; k < held; k++)
+        printf("    %5" PRIu32 " times  %s\n", multipliers[k], page->lines[k]);
+    printf("    add up to 0 = a number that is not 0 mod %" PRIu32 ": no solution\n", page->m);
 }
 
 static void show_mark(int64_t mark)
@@ -156,9 +133,9 @@ int main(void)
         return 1;
     }
 
-    struct page ada = {.student = "Ada"}, ben = {.student = "Ben"};
+    struct page ada = {.student = "Ada"}, ben = {.student = "Ben"}, dora = {.student = "Dora"};
     open_sheet(&ada, 12, 2);
-    add_line(&ada, (const uint32_t[]){2, 3, 5});
+    type_line(&ada, "2*x1 + 3*x2 = 5");
     show_answer(&ada);
     mark_claim(&ada, 2, (const uint32_t[]){1, 1, 3, 2}); /* one step that says what two say */
     mark_claim(&ada, 2, (const uint32_t[]){1, 1, 0, 4}); /* three of the twelve */
@@ -167,9 +144,9 @@ int main(void)
     open_sheet(&ben, 65536, 3);
     open_sheet(&ben, 2, 3);
     strike_line(&ben);
-    add_line(&ben, (const uint32_t[]){1, 1, 0, 1});
-    add_line(&ben, (const uint32_t[]){0, 1, 1, 1});
-    add_line(&ben, (const uint32_t[]){1, 0, 1, 1});
+    type_line(&ben, "x1 + x2 = 1");
+    type_line(&ben, "x2 + x3 = 1");
+    type_line(&ben, "x1 = 1 - x3");
     show_answer(&ben);
     mark_claim(&ben, 1, (const uint32_t[]){0, 1, 0});
     strike_line(&ben);
@@ -177,8 +154,14 @@ int main(void)
 
     struct page cleo = ada; /* the sheet is copied with the page */
     cleo.student = "Cleo";
-    add_line(&cleo, (const uint32_t[]){1, 0, 12});
-    add_line(&cleo, (const uint32_t[]){1, 0, 4});
+    type_line(&cleo, "x1 = 4 * 4");
     show_answer(&cleo);
+
+    open_sheet(&dora, 12, 3);
+    type_line(&dora, "2x1 = 1");
+    type_line(&dora, "x4 = 1");
+    type_line(&dora, "x1*(x2 - x2) = 1");
+    type_line(&dora, "3*(x1 - 2*x2) + x3 = 5 - x1");
+    show_answer(&dora);
     return 0;
 }

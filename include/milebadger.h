@@ -1,7 +1,7 @@
 /* milebadger.h: the calls of the Milebadger library, for exercises on linear equations over the residues 0..m-1.
  *
  * A workbench has a sheet for each student in its own memory. It opens the sheet, adds equations and strikes them, asks
- * for the answer, and has claims marked. A whole program (x + 2y = 0 mod 4, and the claim "0 0, and the step 2 3"):
+ * for the answer, and has claims marked. A whole program (x1 + 2·x2 = 0 mod 4, and the claim "0 0, and the step 2 3"):
  *
  *     #include <inttypes.h>
  *     #include <stdio.h>
@@ -11,7 +11,7 @@
  *     int main(void)
  *     {
  *         const uint32_t opening[] = {MILEBADGER_MODULUS(4), MILEBADGER_UNKNOWNS(2)};
- *         const uint32_t equation[] = {MILEBADGER_COEFFICIENT(1), MILEBADGER_COEFFICIENT(2), MILEBADGER_RIGHT(0)};
+ *         const uint8_t equation[] = "x1 + 2*x2 = 0";
  *         const uint32_t claim[] = {MILEBADGER_HEAD(2), MILEBADGER_ENTRY(0), MILEBADGER_ENTRY(0),
  *                                   MILEBADGER_ENTRY(2), MILEBADGER_ENTRY(3)};
  *         uint32_t block[MILEBADGER_LONGEST_BLOCK];
@@ -19,7 +19,7 @@
  *
  *         int64_t result = milebadger_open(&sheet, opening, 2);
  *         if (result >= 0)
- *             result = milebadger_add(&sheet, equation, 3);
+ *             result = milebadger_add_text(&sheet, equation, sizeof equation - 1);
  *         if (result >= 0)
  *             result = milebadger_answer(&sheet, block, MILEBADGER_LONGEST_BLOCK);
  *         for (int64_t i = 0; i < result; i++)
@@ -44,8 +44,8 @@
  * keeps its content too.
  *
  * Memory. `sheet` points to a sheet of the caller's. `out` points to `out_len` numbers, words or bytes that are the
- * caller's. Nobody else uses `out` during the call, nor `sheet` where it is not const. `words`, `lines`, `values` and
- * `tape` point to as many words, numbers or bytes as their lengths say; nobody writes these, or a const `sheet`,
+ * caller's. Nobody else uses `out` during the call, nor `sheet` where it is not const. `words`, `text`, `lines`, `values`
+ * and `tape` point to as many words, numbers or bytes as their lengths say; nobody writes these, or a const `sheet`,
  * meanwhile. None of them overlaps another that the call writes. A length may be 0: the pointer then leads to something
  * of the caller's all the same, and nothing is read or written. The library keeps nothing from one call to the next;
  * what a sheet holds is in the sheet. Calls with different memory may run at the same time.
@@ -64,7 +64,7 @@ extern "C" {
  * goes with its library. As long as the first number is the same, a sheet keeps its size and the calls keep their
  * arguments; a program that loads the shared library can ask for that when it starts:
  * milebadger_version() / 10000 == MILEBADGER_VERSION / 10000. */
-#define MILEBADGER_VERSION 10000
+#define MILEBADGER_VERSION 10100
 
 /* The library's version.
  *
@@ -84,6 +84,9 @@ uint32_t milebadger_version(void);
 #define MILEBADGER_REFUSED_BUFFER (-8)
 #define MILEBADGER_REFUSED_LEFT_OVER (-9) /* no call's result: just a line of a tape */
 #define MILEBADGER_REFUSED_TAPE (-10)
+#define MILEBADGER_REFUSED_TEXT (-11)
+#define MILEBADGER_REFUSED_BEYOND (-12)
+#define MILEBADGER_REFUSED_NOT_LINEAR (-13)
 
 /* What a result says, in plain English: "done" where the call was made, else why it was refused. */
 static inline const char *milebadger_sentence(int64_t result)
@@ -111,6 +114,12 @@ static inline const char *milebadger_sentence(int64_t result)
         return "the tape ends in 1 to 3 bytes that are no word";
     case MILEBADGER_REFUSED_TAPE:
         return "the tape is longer than 65,536 bytes";
+    case MILEBADGER_REFUSED_TEXT:
+        return "the text is not an equation, or is longer than 256 bytes";
+    case MILEBADGER_REFUSED_BEYOND:
+        return "the text has an unknown that the sheet does not have";
+    case MILEBADGER_REFUSED_NOT_LINEAR:
+        return "the text is not linear: a product has unknowns on both sides";
     default:
         return "no result of this library";
     }
@@ -139,6 +148,7 @@ static inline const char *milebadger_sentence(int64_t result)
 #define MILEBADGER_LARGEST_HEAD 17 /* of a block or a claim: a starting vector, and a step for each unknown */
 #define MILEBADGER_LARGEST_NUMBER 0x0FFFFFFF /* of a word */
 #define MILEBADGER_LONGEST_TAPE 65536 /* bytes */
+#define MILEBADGER_LONGEST_TEXT 256 /* bytes */
 
 /* What is written, at most. Numbers of a block: a head, and 17 vectors of 16 entries. Bytes of a line: 4 letters, 16
  * numbers of 5 digits behind a space each, and 0x0A. Bytes of an answer: such a line for the starting vector, and for 16
@@ -175,6 +185,30 @@ int64_t milebadger_open(milebadger_sheet *sheet, const uint32_t *words, size_t w
  * Writes   the sheet.
  * Returns  how many equations are then held, 1 to 16; or -4, -1, -5, -6. */
 int64_t milebadger_add(milebadger_sheet *sheet, const uint32_t *words, size_t words_len);
+
+/* Adds an equation that is typed as text, such as 3*(x1 - 2*x2) + x3 = 5 - x1, behind those that are held. Brought to the
+ * left, the unknowns' coefficients, and to the right, the plain numbers, all mod m, make the equation: mod 12 with three
+ * unknowns this is 4·x1 + 6·x2 + x3 = 5. The text is text_len bytes of ASCII; no byte 0 ends it.
+ *
+ *     text          expression = expression
+ *     expression    term, or expression + term, or expression - term
+ *     term          factor, or term * factor
+ *     factor        number, or unknown, or ( expression ), or - factor
+ *     number        1 to 5 decimal digits, zeros in front allowed; also m or more
+ *     unknown       x1, x2, .. x16, without zeros in front
+ *
+ * Spaces (0x20) may stand before, between and after these parts, but not inside a number or an unknown. So `2*-x1`, `--3`
+ * and `1 - -2` are expressions; `2x1`, `+1`, `x 1`, `1 2` and anything with a tab are not.
+ *
+ * Asks     Opened? If not, -4.  Such a text, of at most 256 bytes? If not, -11.  All its unknowns among x1 to xn, also where
+ *          their coefficient becomes 0? If not, -12.  No product with an unknown on both sides, also where a coefficient
+ *          becomes 0? If not, -13.  Fewer than 16 equations held? If not, -5.
+ * Writes   the sheet.
+ * Returns  how many equations are then held, 1 to 16; or -4, -11, -12, -13, -5.
+ *
+ * The readers of brackets, signs and stars call each other, and take stack until the text is read. The most that was
+ * measured is 191,000 bytes, for 256 opening brackets or 256 minus signs; 126 pairs of brackets take 95,000. */
+int64_t milebadger_add_text(milebadger_sheet *sheet, const uint8_t *text, size_t text_len);
 
 /* Strikes the last equation. `place` is 0: another place is refused, until a later version gives it a meaning.
  *

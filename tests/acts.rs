@@ -4,10 +4,12 @@
 
 use crate::exercises::{self, chance, pick};
 use crate::face::{untouched, LONGEST_BLOCK};
+use crate::grammar;
 use crate::ledger::{self, Call, Ledger, Said, Solved};
 use crate::random::Random;
 use crate::reference::{Answer, System};
 use crate::sheet::{Act, Desk, Outcome, Reply};
+use crate::spelling;
 use std::collections::BTreeSet;
 
 pub fn open(m: u32, n: u32) -> Act {
@@ -16,6 +18,10 @@ pub fn open(m: u32, n: u32) -> Act {
 
 pub fn add(numbers: &[u32]) -> Act {
     Act::Add(ledger::equation(numbers))
+}
+
+pub fn add_text(text: &str) -> Act {
+    Act::AddText(text.as_bytes().to_vec())
 }
 
 pub fn answer(length: usize) -> Act {
@@ -68,8 +74,14 @@ pub type Tally = BTreeSet<(&'static str, u32)>;
 
 /// "Questions, in order, and the number when the answer is no": every refusal that a direct call can give.
 pub fn all_refusals() -> Tally {
-    let refusals: [(&str, &[u32]); 5] =
-        [("open", &[1, 2, 3]), ("add", &[4, 1, 5, 6]), ("strike", &[4, 1, 7]), ("answer", &[4, 8]), ("mark", &[4, 1, 6])];
+    let refusals: [(&str, &[u32]); 6] = [
+        ("open", &[1, 2, 3]),
+        ("add", &[4, 1, 5, 6]),
+        ("add text", &[4, 11, 12, 13, 5]),
+        ("strike", &[4, 1, 7]),
+        ("answer", &[4, 8]),
+        ("mark", &[4, 1, 6]),
+    ];
     refusals.iter().flat_map(|(name, numbers)| numbers.iter().map(|&number| (*name, number))).collect()
 }
 
@@ -79,6 +91,7 @@ pub fn step(desk: &mut Desk, ledger: &mut Ledger, act: &Act, tally: &mut Tally) 
     let call = match act {
         Act::Open(words) => Call::Open(words.clone()),
         Act::Add(words) => Call::Add(words.clone()),
+        Act::AddText(text) => Call::AddText(grammar::read(text)),
         Act::Strike(place) => Call::Strike(*place),
         Act::Answer(buffer) => Call::Answer(buffer.len()),
         Act::Mark(words) => Call::Mark(words.clone()),
@@ -185,6 +198,8 @@ pub fn random_act(random: &mut Random, ledger: &Ledger, filling: bool) -> Act {
         5..=9 => answer(buffer_length(random, system)),
         10..=11 => Act::MarkBlock,
         12..=17 => Act::Mark(exercises::claim(random, system)),
+        18..=19 => Act::AddText(spelling::text(random, system.n)),
+        _ if filling && chance(random, 3) => Act::AddText(spelling::text(random, system.n)),
         _ => Act::Add(exercises::equation(random, system)),
     }
 }

@@ -2,10 +2,12 @@
 mod acts;
 mod exercises;
 mod face;
+mod grammar;
 mod ledger;
 mod random;
 mod reference;
 mod sheet;
+mod spelling;
 
 use acts::{add, all_refusals, answer, answered, entering, expect, full_size_system, last, mark, open, outcomes};
 use acts::{random_act, random_system, Tally, WRONG_PLACES};
@@ -27,6 +29,7 @@ fn random_acts(random: &mut Random, count: usize) -> Vec<Act> {
         match &act {
             Act::Open(words) => drop(sheet.run(&Call::Open(words.clone()))),
             Act::Add(words) => drop(sheet.run(&Call::Add(words.clone()))),
+            Act::AddText(text) => drop(sheet.run(&Call::AddText(grammar::read(text)))),
             Act::Strike(place) => drop(sheet.run(&Call::Strike(*place))),
             _ => {}
         }

@@ -20,7 +20,7 @@ typedef char room[MILEBADGER_LINES_ROOM(7) == MILEBADGER_LONGEST_ANSWER + 10 ? 1
 
 typedef char size[sizeof(milebadger_sheet) == 1164 ? 1 : -1];
 
-#if MILEBADGER_VERSION < 10000 || MILEBADGER_REFUSED_TAPE != -10
+#if MILEBADGER_VERSION < 10100 || MILEBADGER_REFUSED_NOT_LINEAR != -13
 #error "names that the preprocessor cannot read"
 #endif
 
@@ -44,6 +44,7 @@ const char *sheet_later(uint32_t *out, size_t out_len)
     milebadger_sheet sheet = {0}, copy = sheet;
     int64_t result = milebadger_version() == MILEBADGER_VERSION ? milebadger_open(&sheet, words, 2) : 0;
     result += milebadger_add(&sheet, words + 2, 2) + milebadger_strike(&copy, 0);
+    result += milebadger_add_text(&sheet, lines, MILEBADGER_LONGEST_TEXT);
     result += milebadger_answer(&copy, out, out_len);
     if (milebadger_mark(&sheet, out, out_len) == MILEBADGER_PASS)
         return milebadger_sentence(result);
@@ -69,6 +70,9 @@ int kinds_of_results(int64_t result)
     case MILEBADGER_REFUSED_BUFFER:
     case MILEBADGER_REFUSED_LEFT_OVER:
     case MILEBADGER_REFUSED_TAPE:
+    case MILEBADGER_REFUSED_TEXT:
+    case MILEBADGER_REFUSED_BEYOND:
+    case MILEBADGER_REFUSED_NOT_LINEAR:
         return 1;
     default:
         return 2;

@@ -2,6 +2,7 @@
 //! all vectors and all combinations; where those are too many it says so, and the tests then look at what can be seen without.
 #![allow(dead_code)]
 
+use crate::grammar::Typed;
 use crate::reference::{self, Answer, System};
 use std::collections::BTreeSet;
 
@@ -75,12 +76,13 @@ fn is_claim(n: usize, words: &[u32]) -> bool {
     }
 }
 
-/// A call with its arguments other than the sheet. A strike has its place, which is its word's number on tape; an answer has the
-/// length of its buffer, or its word on tape.
+/// A call with its arguments other than the sheet. A typed equation has what its text says, if it says anything; a strike has its
+/// place, which is its word's number on tape; an answer has the length of its buffer, or its word on tape.
 #[derive(Clone, Debug, PartialEq)]
 pub enum Call {
     Open(Vec<u32>),
     Add(Vec<u32>),
+    AddText(Option<Typed>),
     Strike(u32),
     Answer(usize),
     Mark(Vec<u32>),
@@ -93,6 +95,7 @@ impl Call {
         match self {
             Call::Open(_) => "open",
             Call::Add(_) => "add",
+            Call::AddText(_) => "add text",
             Call::Strike(_) => "strike",
             Call::Answer(_) => "answer",
             Call::Mark(_) => "mark",
@@ -181,6 +184,11 @@ impl Ledger {
                 system.equations.push(numbers(words));
                 Said::Added(system.equations.len())
             }
+            (Call::AddText(typed), Ledger::Opened(system)) => {
+                let typed = typed.as_ref().expect("question 11");
+                system.equations.push(typed.numbers(system.m, system.n));
+                Said::Added(system.equations.len())
+            }
             (Call::Strike(_), Ledger::Opened(system)) => {
                 system.equations.pop();
                 Said::Struck(system.equations.len())
@@ -196,6 +204,7 @@ impl Ledger {
         let questions: &[u32] = match call {
             Call::Open(_) => &[1, 2, 3],
             Call::Add(_) => &[4, 1, 5, 6],
+            Call::AddText(_) => &[4, 11, 12, 13, 5],
             Call::Strike(_) => &[4, 1, 7],
             Call::Answer(_) => &[4, 8],
             Call::AnswerFromTape(_) => &[4, 1],
@@ -217,8 +226,11 @@ impl Ledger {
             (3, Call::Open(words)) => (1..=16).contains(&number(words[1])),
             (4, _) => matches!(self, Ledger::Opened(_)),
             (1, Call::Add(words)) => is_equation(system().n, words),
-            (5, Call::Add(_)) => system().equations.len() < 16,
+            (5, Call::Add(_) | Call::AddText(_)) => system().equations.len() < 16,
             (6, Call::Add(words)) => words.iter().all(|&w| number(w) < system().m),
+            (11, Call::AddText(typed)) => typed.is_some(),
+            (12, Call::AddText(Some(typed))) => typed.unknowns().iter().all(|&j| j <= system().n),
+            (13, Call::AddText(Some(typed))) => typed.linear(),
             (1, Call::Strike(place)) => *place == 0,
             (1, Call::AnswerFromTape(word)) => number(*word) == 0,
             (7, Call::Strike(_)) => !system().equations.is_empty(),

@@ -1,6 +1,7 @@
 //! The numbers that include/milebadger.h names: each limit is reached, and what is above it is refused; the version is that of the
 //! archive, and a sheet has the size that the tests take it to have.
 mod face;
+mod grammar;
 mod ledger;
 mod reference;
 mod sheet;
@@ -37,7 +38,7 @@ fn lines(words: &[u32]) -> String {
 #[test]
 fn the_archive_has_the_version_of_the_header() {
     assert_eq!(face::version() as usize, limit("VERSION"));
-    assert_eq!(face::version(), 10_000, "1.0.0");
+    assert_eq!(face::version(), 10_100, "1.1.0");
 }
 
 #[test]
@@ -63,6 +64,17 @@ fn a_sheet_goes_as_far_as_the_header_says() {
         assert_eq!(outcome(Act::Add(equation(&vec![m - 1; n + 1]))), Outcome::Holds(held));
     }
     assert_eq!(outcome(Act::Add(equation(&vec![m - 1; n + 1]))), Outcome::Refused(5));
+}
+
+#[test]
+fn a_typed_equation_may_be_as_long_as_the_header_says() {
+    let longest = limit("LONGEST_TEXT");
+    let mut desk = Desk::fresh();
+    let mut outcome = |act: Act| desk.act(&act).unwrap().outcome;
+    assert_eq!(outcome(Act::Open(opening(2, 1))), Outcome::Holds(0));
+    for (length, expected) in [(longest + 1, Outcome::Refused(11)), (longest, Outcome::Holds(1))] {
+        assert_eq!(outcome(Act::AddText(format!("{:length$}", "x1=1").into_bytes())), expected, "{length}");
+    }
 }
 
 #[test]

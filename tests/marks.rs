@@ -2,10 +2,12 @@
 mod acts;
 mod exercises;
 mod face;
+mod grammar;
 mod ledger;
 mod random;
 mod reference;
 mod sheet;
+mod spelling;
 
 use acts::{add, answer, answered, entering, expect, full_size_system, last, mark, open, outcomes};
 use acts::{random_solvable, random_unsolvable, Tally};

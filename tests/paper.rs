@@ -1,10 +1,14 @@
-//! The reference itself against the examples of the paper, so that the other tests compare with what the paper says.
+//! The reference itself against the examples of the paper, and of typed equations, so that the other tests compare with what the
+//! paper says.
+mod grammar;
 mod ledger;
 mod reference;
 mod tape;
 
+use grammar::{Tree, Typed, ADDED, OUTSIDE, REFUSED};
 use ledger::{Call, Ledger, Said, Solved};
 use reference::{Answer, Congruence, System};
+use std::rc::Rc;
 use tape::{PAPER_LINES, PAPER_TAPE};
 
 fn system(m: u32, n: usize, equations: &[&[u32]]) -> System {
@@ -144,4 +148,60 @@ fn left_over_bytes_and_tapes_that_are_too_long_are_refused() {
     }
     prints(&vec![0; 65_536], &"refused 1\n".repeat(16_384));
     prints(&vec![0; 65_537], "refused 10\n");
+}
+
+/// What the text says to a ledger, and the equations that it then holds.
+fn typed(mut sheet: Ledger, text: &str) -> (Said, Ledger) {
+    (sheet.run(&Call::AddText(grammar::read(text.as_bytes()))), sheet)
+}
+
+#[test]
+fn typed_equations_are_those_that_were_worked_out_by_hand() {
+    for (m, n, text, numbers) in ADDED {
+        let held = opened(m, n as u32, &[numbers]);
+        assert_eq!(typed(opened(m, n as u32, &[]), text), (Said::Added(1), held), "{text}");
+    }
+}
+
+#[test]
+fn texts_are_turned_away_by_the_first_question_that_they_fail() {
+    let full = [&[1, 1, 1, 1][..]; 16];
+    for sheet in [opened(7, 3, &[]), opened(7, 3, &full)] {
+        for (number, text) in OUTSIDE.map(|text| (11, text)).into_iter().chain(REFUSED) {
+            assert_eq!(typed(sheet.clone(), text), (Said::Refused(number), sheet.clone()), "{text}");
+            assert_eq!(typed(Ledger::Unopened, text), (Said::Refused(4), Ledger::Unopened), "{text}");
+        }
+    }
+    assert_eq!(typed(opened(7, 3, &full), "x1=1").0, Said::Refused(5));
+    assert_eq!(typed(Ledger::Unopened, "x1=1").0, Said::Refused(4));
+    let longest = format!("x1={}1", " ".repeat(252));
+    assert_eq!(typed(opened(7, 3, &[]), &longest).0, Said::Added(1));
+    assert_eq!(typed(opened(7, 3, &[]), &format!("{longest} ")).0, Said::Refused(11));
+}
+
+#[test]
+fn products_bind_before_sums_a_minus_before_both_and_operators_of_one_rank_to_the_left() {
+    let number = |number| Rc::new(Tree::Number(number));
+    let minus = |tree| Rc::new(Tree::Minus(tree));
+    let sum = |left, right| Rc::new(Tree::Sum(left, right));
+    let difference = |left, right| Rc::new(Tree::Difference(left, right));
+    let product = |left, right| Rc::new(Tree::Product(left, right));
+    for (text, tree) in [
+        ("1-2-3", difference(difference(number(1), number(2)), number(3))),
+        ("1-(2-3)", difference(number(1), difference(number(2), number(3)))),
+        ("1-2+3", sum(difference(number(1), number(2)), number(3))),
+        ("1*2*3", product(product(number(1), number(2)), number(3))),
+        ("1+2*3", sum(number(1), product(number(2), number(3)))),
+        ("1*2+3", sum(product(number(1), number(2)), number(3))),
+        ("(1+2)*3", product(sum(number(1), number(2)), number(3))),
+        ("-1*2", product(minus(number(1)), number(2))),
+        ("-1-2", difference(minus(number(1)), number(2))),
+        ("-(1-2)", minus(difference(number(1), number(2)))),
+        ("1*--2", product(number(1), minus(minus(number(2))))),
+        ("1--2", difference(number(1), minus(number(2)))),
+        ("((00012)) * x16", product(number(12), Rc::new(Tree::Unknown(16)))),
+    ] {
+        let found = grammar::read(format!("{text} = 0").as_bytes());
+        assert_eq!(found, Some(Typed { left: tree, right: number(0) }), "{text}");
+    }
 }

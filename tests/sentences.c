@@ -15,12 +15,13 @@ int main(void)
     const int64_t refused[] = {
         MILEBADGER_REFUSED_SHAPE, MILEBADGER_REFUSED_MODULUS, MILEBADGER_REFUSED_UNKNOWNS, MILEBADGER_REFUSED_UNOPENED,
         MILEBADGER_REFUSED_FULL, MILEBADGER_REFUSED_NUMBER, MILEBADGER_REFUSED_NOTHING_TO_STRIKE, MILEBADGER_REFUSED_BUFFER,
-        MILEBADGER_REFUSED_LEFT_OVER, MILEBADGER_REFUSED_TAPE,
+        MILEBADGER_REFUSED_LEFT_OVER, MILEBADGER_REFUSED_TAPE, MILEBADGER_REFUSED_TEXT, MILEBADGER_REFUSED_BEYOND,
+        MILEBADGER_REFUSED_NOT_LINEAR,
     };
-    const int64_t made[] = {MILEBADGER_FAIL, MILEBADGER_PASS, 16, INT64_MAX}, none[] = {-11, -12, INT64_MIN};
-    const char *sentence[10];
+    const int64_t made[] = {MILEBADGER_FAIL, MILEBADGER_PASS, 16, INT64_MAX}, none[] = {-14, -15, INT64_MIN};
+    const char *sentence[13];
 
-    for (int i = 0; i < 10; i++) {
+    for (int i = 0; i < 13; i++) {
         sentence[i] = milebadger_sentence(refused[i]);
         if (refused[i] != -(i + 1) || strlen(sentence[i]) < 10)
             return fault(refused[i], sentence[i]);

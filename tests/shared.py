@@ -18,6 +18,7 @@ library.milebadger_version.restype = ctypes.c_uint32
 for name, arguments in {
     "open": [ctypes.POINTER(Sheet), Words, ctypes.c_size_t],
     "add": [ctypes.POINTER(Sheet), Words, ctypes.c_size_t],
+    "add_text": [ctypes.POINTER(Sheet), ctypes.c_char_p, ctypes.c_size_t],
     "strike": [ctypes.POINTER(Sheet), ctypes.c_uint32],
     "answer": [ctypes.POINTER(Sheet), Words, ctypes.c_size_t],
     "mark": [ctypes.POINTER(Sheet), Words, ctypes.c_size_t],
@@ -36,6 +37,10 @@ def words(*pairs):
 
 def equation(*numbers):
     return words(*((COEFFICIENT, a) for a in numbers[:-1]), (RIGHT, numbers[-1]))
+
+
+def text(typed):
+    return typed, len(typed)
 
 
 def block(*numbers, kind=ENTRY):
@@ -70,6 +75,7 @@ sheet = Sheet()
 out = (ctypes.c_uint32 * 273)(*([0xC0DEC0DE] * 273))
 refused(-4, "answer", out, 273)
 refused(-4, "strike", 0)
+refused(-4, "add_text", *text(b"x1 = 0"))
 refused(-2, "open", words((MODULUS, 65536), (UNKNOWNS, 2)), 2)
 same(lend("open", words((MODULUS, 4), (UNKNOWNS, 2))), 0)
 refused(-7, "strike", 0)
@@ -86,9 +92,12 @@ same(lend("mark", block(2, 0, 0, 2, 3)), 1)
 same(lend("mark", block(2, 0, 0, 0, 2)), 0)
 refused(-1, "mark", block(2, 0, 0, 0), 4)
 
+for result, typed in {-11: b"2x1 = 0", -12: b"x3 = 0", -13: b"x1*x2 = 0"}.items():
+    refused(result, "add_text", *text(typed))
+
 # A copy goes its own way: 2x = 1 contradicts there, and is struck again.
 first = Sheet.from_buffer_copy(sheet)
-same(lend("add", equation(2, 0, 1)), 2)
+same(call("add_text", *text(b"2*x1 = 1")), 2)
 same(lend("answer", out), 3)
 same((out[0], out[1] >> 28, out[2] >> 28), (HEAD << 28, MULTIPLIER, MULTIPLIER))
 c, d = (word & 0xFFFFFFF for word in out[1:3])

@@ -1,5 +1,5 @@
-//! The calls on a sheet as Rust sees them. The sheet, the words and the buffer lie in memory with a guard on both sides, and after
-//! each call everything that it may not write is compared with what it was.
+//! The calls on a sheet as Rust sees them. The sheet, the words, the text and the buffer lie in memory with a guard on both sides,
+//! and after each call everything that it may not write is compared with what it was.
 #![allow(dead_code)]
 
 use crate::face::{GUARD, GUARDS};
@@ -16,6 +16,7 @@ pub struct Sheet {
 extern "C" {
     fn milebadger_open(sheet: *mut Sheet, words: *const u32, words_len: usize) -> i64;
     fn milebadger_add(sheet: *mut Sheet, words: *const u32, words_len: usize) -> i64;
+    fn milebadger_add_text(sheet: *mut Sheet, text: *const u8, text_len: usize) -> i64;
     fn milebadger_strike(sheet: *mut Sheet, place: u32) -> i64;
     fn milebadger_answer(sheet: *const Sheet, out: *mut u32, out_len: usize) -> i64;
     fn milebadger_mark(sheet: *const Sheet, words: *const u32, words_len: usize) -> i64;
@@ -26,6 +27,7 @@ extern "C" {
 pub enum Act {
     Open(Vec<u32>),
     Add(Vec<u32>),
+    AddText(Vec<u8>),
     /// At this place.
     Strike(u32),
     /// Into a buffer with this content.
@@ -37,7 +39,7 @@ pub enum Act {
 
 impl Act {
     fn changes_the_sheet(&self) -> bool {
-        matches!(self, Act::Open(_) | Act::Add(_) | Act::Strike(_))
+        matches!(self, Act::Open(_) | Act::Add(_) | Act::AddText(_) | Act::Strike(_))
     }
 }
 
@@ -61,9 +63,9 @@ pub struct Reply {
 /// What the result says, where the call may have it at all.
 fn read(act: &Act, result: i64) -> Option<Outcome> {
     match (act, result) {
-        (_, -8..=-1) => Some(Outcome::Refused(-result as u32)),
+        (_, -8..=-1) | (Act::AddText(_), -13..=-11) => Some(Outcome::Refused(-result as u32)),
         (Act::Open(_), 0) => Some(Outcome::Holds(0)),
-        (Act::Add(_) | Act::Strike(_), 0..=16) => Some(Outcome::Holds(result as usize)),
+        (Act::Add(_) | Act::AddText(_) | Act::Strike(_), 0..=16) => Some(Outcome::Holds(result as usize)),
         (Act::Answer(buffer), 1..) if result <= buffer.len() as i64 => Some(Outcome::Wrote(result as usize)),
         (Act::Mark(_) | Act::MarkBlock, 1) => Some(Outcome::Pass),
         (Act::Mark(_) | Act::MarkBlock, 0) => Some(Outcome::Fail),
@@ -71,32 +73,48 @@ fn read(act: &Act, result: i64) -> Option<Outcome> {
     }
 }
 
-/// Numbers with a guard on both sides.
+/// Numbers or bytes with a guard on both sides.
 #[derive(Clone, PartialEq)]
-struct Lent(Vec<u32>);
+struct Lent<T> {
+    guard: T,
+    all: Vec<T>,
+}
 
-impl Lent {
-    fn new(numbers: &[u32]) -> Lent {
-        Lent([&[GUARD; GUARDS], numbers, &[GUARD; GUARDS]].concat())
+impl Lent<u32> {
+    fn numbers(numbers: &[u32]) -> Lent<u32> {
+        Lent::new(GUARD, numbers)
+    }
+}
+
+impl Lent<u8> {
+    /// Beside the text there are digits, with which it would say something else.
+    fn text(text: &[u8]) -> Lent<u8> {
+        Lent::new(b'1', text)
+    }
+}
+
+impl<T: Copy + PartialEq> Lent<T> {
+    fn new(guard: T, own: &[T]) -> Lent<T> {
+        Lent { guard, all: [&[guard; GUARDS], own, &[guard; GUARDS]].concat() }
     }
 
-    fn numbers(&self) -> &[u32] {
-        &self.0[GUARDS..self.0.len() - GUARDS]
+    fn own(&self) -> &[T] {
+        &self.all[GUARDS..self.all.len() - GUARDS]
     }
 
-    fn start(&mut self) -> *mut u32 {
-        self.0[GUARDS..].as_mut_ptr()
+    fn start(&mut self) -> *mut T {
+        self.all[GUARDS..].as_mut_ptr()
     }
 
     fn guarded(&self) -> bool {
-        *self == Lent::new(self.numbers())
+        *self == Lent::new(self.guard, self.own())
     }
 }
 
 /// A sheet that lies on a desk, beside the buffer of the last accepted answer.
 pub struct Desk {
-    sheet: Lent,
-    buffer: Lent,
+    sheet: Lent<u32>,
+    buffer: Lent<u32>,
     wrote: usize,
 }
 
@@ -109,29 +127,30 @@ impl Desk {
     /// A sheet with these numbers.
     pub fn with(numbers: &[u32]) -> Desk {
         assert_eq!(numbers.len(), NUMBERS);
-        Desk { sheet: Lent::new(numbers), buffer: Lent::new(&[]), wrote: 0 }
+        Desk { sheet: Lent::numbers(numbers), buffer: Lent::numbers(&[]), wrote: 0 }
     }
 
     pub fn numbers(&self) -> &[u32] {
-        self.sheet.numbers()
+        self.sheet.own()
     }
 
     /// The words that the last accepted answer wrote.
     pub fn block(&self) -> &[u32] {
-        &self.buffer.numbers()[..self.wrote]
+        &self.buffer.own()[..self.wrote]
     }
 
     /// Makes the call, or says what is wrong with its result or with the memory after it.
     pub fn act(&mut self, act: &Act) -> Result<Reply, String> {
         let before = self.sheet.clone();
         let mut lent = match act {
-            Act::Open(words) | Act::Add(words) | Act::Mark(words) | Act::Answer(words) => Lent::new(words),
-            Act::Strike(_) => Lent::new(&[]),
-            Act::MarkBlock => std::mem::replace(&mut self.buffer, Lent::new(&[])),
+            Act::Open(words) | Act::Add(words) | Act::Mark(words) | Act::Answer(words) => Lent::numbers(words),
+            Act::AddText(_) | Act::Strike(_) => Lent::numbers(&[]),
+            Act::MarkBlock => std::mem::replace(&mut self.buffer, Lent::numbers(&[])),
         };
-        let old = lent.clone();
-        let len = if *act == Act::MarkBlock { self.wrote } else { old.numbers().len() };
-        let result = call(act, self.sheet.start() as *mut Sheet, lent.start(), len);
+        let mut text = Lent::text(if let Act::AddText(text) = act { text } else { &[] });
+        let (old, old_text) = (lent.clone(), text.clone());
+        let len = if *act == Act::MarkBlock { self.wrote } else { old.own().len() };
+        let result = call(act, self.sheet.start() as *mut Sheet, lent.start(), len, text.start());
         let outcome = read(act, result).ok_or(format!("no call has the result {result}"))?;
         let (refused, answers) = (matches!(outcome, Outcome::Refused(_)), matches!(act, Act::Answer(_)));
         let faults = [
@@ -139,11 +158,12 @@ impl Desk {
             ("the sheet was written", self.sheet != before && (refused || !act.changes_the_sheet())),
             ("written beside the words or the buffer", !lent.guarded()),
             ("the words or the buffer were written", lent != old && (refused || !answers)),
+            ("the text or what is beside it was written", text != old_text),
         ];
         if let Some((fault, _)) = faults.iter().find(|(_, found)| *found) {
             return Err(format!("{fault} at {outcome:?}"));
         }
-        let buffer = if answers { lent.numbers().to_vec() } else { vec![] };
+        let buffer = if answers { lent.own().to_vec() } else { vec![] };
         match (act, outcome) {
             (Act::Answer(_), Outcome::Wrote(length)) => (self.buffer, self.wrote) = (lent, length),
             (Act::MarkBlock, _) => self.buffer = lent,
@@ -153,12 +173,13 @@ impl Desk {
     }
 }
 
-/// The call itself, with words or a buffer of this length at `memory`.
-fn call(act: &Act, sheet: *mut Sheet, memory: *mut u32, len: usize) -> i64 {
+/// The call itself, with words or a buffer of this length at `memory`, or its bytes at `text`.
+fn call(act: &Act, sheet: *mut Sheet, memory: *mut u32, len: usize, text: *const u8) -> i64 {
     unsafe {
         match act {
             Act::Open(_) => milebadger_open(sheet, memory, len),
             Act::Add(_) => milebadger_add(sheet, memory, len),
+            Act::AddText(bytes) => milebadger_add_text(sheet, text, bytes.len()),
             Act::Strike(place) => milebadger_strike(sheet, *place),
             Act::Answer(_) => milebadger_answer(sheet, memory, len),
             Act::Mark(_) | Act::MarkBlock => milebadger_mark(sheet, memory, len),

@@ -3,12 +3,14 @@
 mod acts;
 mod exercises;
 mod face;
+mod grammar;
 mod ledger;
 mod random;
 mod reference;
 mod sheet;
+mod spelling;
 
-use acts::{add, all_refusals, answer, entering, mark, open, random_act, random_system, step, Tally, WRONG_PLACES};
+use acts::{add, add_text, all_refusals, answer, entering, mark, open, random_act, random_system, step, Tally, WRONG_PLACES};
 use exercises::{chance, pick};
 use face::LONGEST_BLOCK;
 use ledger::{number, Ledger};
@@ -50,16 +52,24 @@ fn opened(m: u32, n: u32) -> Vec<u32> {
     [vec![m, n], vec![0; NUMBERS - 2]].concat()
 }
 
+/// Puts a line behind those that are held.
+fn enter(numbers: &mut Vec<u32>, line: Vec<u32>) {
+    let at = CELLS + numbers[HELD] as usize * line.len();
+    numbers.splice(at..at + line.len(), line);
+    numbers[HELD] += 1;
+}
+
 /// The numbers after a call with this outcome: but for an opening no others change than the call needs.
 fn after(numbers: &[u32], act: &Act, outcome: Outcome) -> Vec<u32> {
     let mut numbers = numbers.to_vec();
     match (act, outcome) {
         (_, Outcome::Refused(_)) => {}
         (Act::Open(words), _) => numbers = opened(number(words[0]), number(words[1])),
-        (Act::Add(words), _) => {
-            let at = CELLS + numbers[HELD] as usize * words.len();
-            numbers.splice(at..at + words.len(), words.iter().map(|&word| number(word)));
-            numbers[HELD] += 1;
+        (Act::Add(words), _) => enter(&mut numbers, words.iter().map(|&word| number(word)).collect()),
+        (Act::AddText(text), _) => {
+            let typed = grammar::read(text).expect("refused with 11");
+            let line = typed.numbers(numbers[MODULUS], numbers[UNKNOWNS] as usize);
+            enter(&mut numbers, line);
         }
         (Act::Strike(_), _) => numbers[HELD] -= 1,
         (Act::Answer(_) | Act::Mark(_) | Act::MarkBlock, _) => {}
@@ -92,6 +102,11 @@ fn expect_each(random: &mut Random, numbers: &[u32], tally: &mut Tally) {
         add(&[&ones[..], &[0]].concat()),
         add(&[&ones[..], &[system.m]].concat()),
         add(&ones),
+        add_text("2 * (x1 - 3) = 1"),
+        add_text("2 (x1 - 3) = 1"),
+        add_text("x16 = 0"),
+        add_text("0*x1*x1 = 0"),
+        Act::AddText(spelling::text(random, system.n)),
         Act::Strike(0),
         Act::Strike(pick(random, &WRONG_PLACES)),
         answer(LONGEST_BLOCK),
@@ -178,8 +193,9 @@ fn zeroed_memory_is_an_unopened_sheet() {
     let mut tally = Tally::new();
     let words = [vec![], ledger::opening(2, 1), ledger::equation(&[1, 1]), ledger::claim(&[]), ledger::claim(&[vec![0]])];
     let acts = words.iter().flat_map(|words| [Act::Add(words.clone()), Act::Mark(words.clone())]);
+    let texts = ["x1 = 1", "1 = 1", "", "=", "x1*x1 = 0", "x16 = 0"].map(add_text);
     let strikes = WRONG_PLACES.iter().chain(&[0]).map(|&place| Act::Strike(place));
-    for act in acts.chain(strikes).chain([0, 1, 2, LONGEST_BLOCK].map(answer)).chain([Act::MarkBlock]) {
+    for act in acts.chain(texts).chain(strikes).chain([0, 1, 2, LONGEST_BLOCK].map(answer)).chain([Act::MarkBlock]) {
         let mut desk = Desk::fresh();
         assert_eq!(expect(&mut desk, &act, 0, &mut tally), Outcome::Refused(4), "{act:x?}");
         assert_eq!(desk.numbers(), [0; NUMBERS]);

@@ -2,6 +2,7 @@
 //! anywhere. Multipliers are left free, so lines with `none` are compared by their property alone.
 mod exercises;
 mod face;
+mod grammar;
 mod ledger;
 mod random;
 mod reference;

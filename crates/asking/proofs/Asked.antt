@@ -2,17 +2,21 @@
 --   opened-asked   "opened? 4.", the first question
 --   plain-asked    "On tape, number 0? 1."
 --   held-asked     "An equation there? 7."
-use mathlib.Core.Path.{_≡_, ap}
+--   typing-asked   those of a typed equation on an opened sheet, by what the reader asks of its text
+use mathlib.Core.Path.{_≡_, sym, ap, _∙_}
+use mathlib.Core.Bool.{true}
 use mathlib.Core.List.{List, [], _∷_, _++_}
 use Prim.Native.Nat.{ℕ}
 use lib.Dec.{eqb, ltb}
 use lib.ListN.{length}
-use Rattle.questions.specs.Questions.{Question, asks}
+use Rattle.questions.specs.Questions.{Question, asks, firstNo}
 use Rattle.questions.proofs.Ladder.{thenAsks, Asked, nothing-asked, then-asked}
 use Rattle.words.specs.declared.unpacking.Word.{Word}
 use Rattle.words.specs.Words.{wordOf}
-use Rattle.ledger.specs.Ledger.{Ledger, isOpened, equationsIn}
-use Rattle.ledger.specs.Questions.{plain}
+use Rattle.grammar.specs.Texts.{isTyped, isWithin, isLinear}
+use Rattle.ledger.specs.Ledger.{Ledger, isOpened, unknownsOf, equationsIn, mostEquations}
+use Rattle.ledger.specs.Calls.{types, enters}
+use Rattle.ledger.specs.Questions.{plain, refusalOf}
 use Rattle.asking.specs.declared.Seen.{Seen}
 use Rattle.asking.specs.Sees.{Sees}
 
@@ -29,3 +33,17 @@ module _ {qs : List Question} {before : ℕ} (asked : Asked qs before) {r : ℕ}
       → Asked (qs ++ (asks 7 (ltb 0 (length (equationsIn l))) ∷ [])) r
   held-asked {l} sees is =
       then-asked asked 7 tt (ltb 0 (length (equationsIn l))) (λ yes. ap (λ (k : ℕ). ltb 0 k) (sees .held)) is
+
+-- the questions that are asked of the text, for n unknowns
+abbrev pub ofText : List ℕ → ℕ → List Question
+ofText text n = asks 11 (isTyped text) ∷ asks 12 (isWithin n text) ∷ asks 13 (isLinear text) ∷ []
+
+pub typing-asked : (l : Ledger) (text : List ℕ) {seen : Seen} {before r : ℕ} → Sees l seen → seen .opened ≡ true
+    → before ≡ firstNo (ofText text (seen .unknowns))
+    → r ≡ thenAsks before 5 (ltb (seen .held) mostEquations) → r ≡ refusalOf l (enters (types text))
+unfolding refusalOf
+typing-asked l text {seen} {before} sees opened asked is =
+    let typed : Asked (ofText text (unknownsOf l)) before =
+    record { numbers = tt; is = asked ∙ ap (λ (n : ℕ). firstNo (ofText text n)) (sees .unknowns) } in
+    then-asked typed 5 tt (ltb (length (equationsIn l)) mostEquations) (λ yes. ap (λ (k : ℕ). ltb k mostEquations) (sees .held)) is .is
+    ∙ rw (sym (sees .opened) ∙ opened)

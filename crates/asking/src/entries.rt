@@ -1,12 +1,15 @@
 // The questions of the calls that open, add or strike. Where a call has words, their numbers go to lent memory, which has room for one
 // word more than the call can have: so many are enough to tell its shape.
 ghost use mathlib.Core.Path.{_≡_};
-ghost use Prim.Native.Nat.{_≤_};
+ghost use Prim.Native.Nat.{_≤_, _<_};
+ghost use lib.Dec.{T};
 ghost use lib.ListN.{length, take};
 ghost use Rattle.slices.specs.Over.{over};
+ghost use Rattle.equations.specs.Lines.{equationAt};
 ghost use Rattle.words.specs.Words.{wordsIn, numbersOf};
+ghost use Rattle.grammar.specs.Texts.{typedOf, equationIn};
 ghost use Rattle.ledger.specs.Ledger.{Ledger, unopened, mostUnknowns};
-ghost use Rattle.ledger.specs.Calls.{opens, adds, strikes, enters};
+ghost use Rattle.ledger.specs.Calls.{opens, adds, types, strikes, enters};
 ghost use Rattle.ledger.specs.Questions.{refusalOf};
 ghost use Rattle.asking.specs.Sees.{Sees, openingRoom, equationRoom};
 use crate::Seen;
@@ -18,6 +21,8 @@ use questions::is_modulus;
 use system::limits::EQUATIONS;
 use system::limits::LINE;
 use system::residues::all_below;
+use typed::equation::Typing;
+use typed::equation::read;
 use words::unpacking::unpack_into;
 
 pub const OPENING_ROOM: usize = 3;
@@ -50,6 +55,27 @@ pub fn add_refusal(seen: Seen, words: &[u32], numbers: &mut [u32]) -> u32
     let shape = ask(opened, 1, equation);
     let under = ask(shape, 5, room);
     ask(under, 6, below)
+}
+
+// A text has no words: where it is accepted, its line is part of what is given.
+pub fn typing_of(seen: Seen, text: &[u8]) -> Typing
+    requires { ⌜ (seen .unknowns ≤ mostUnknowns) × (T (seen .opened) → 0 < seen .modulus) ⌝ }
+    ensures { λ r. ⌜ ((l : Ledger) → Sees l seen → r .refusal ≡ refusalOf l (enters (types (now (text .entry))))) ⌝ }
+    ensures { λ r. ⌜ (r .refusal ≡ 0 → equationAt (seen .unknowns) (r .line)
+        ≡ equationIn (seen .modulus) (seen .unknowns) (typedOf (now (text .entry)))) ⌝ }
+{
+    if !seen.opened {
+        return Typing {
+            refusal: 4,
+            line: [0u32; LINE],
+        };
+    }
+    let typing = read(text, seen.modulus, seen.unknowns);
+    let line = typing.line;
+    Typing {
+        refusal: ask(typing.refusal, 5, seen.held < EQUATIONS),
+        line: line,
+    }
 }
 
 pub fn strike_refusal(seen: Seen, number: u32) -> u32

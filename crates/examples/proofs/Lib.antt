@@ -1,2 +1,3 @@
--- One table.
+-- Two tables.
 pub mod Starred
+pub mod Typed

@@ -3,7 +3,8 @@
 --   enter-accepted             an accepted call has its effect
 --   gains-counts               one equation more,
 --   loses-counts               one less
-use mathlib.Core.Path.{_≡_, _∙_}
+use mathlib.Core.Path.{_≡_, sym, ap, subst, _∙_}
+use mathlib.Core.Bool.{true}
 use mathlib.Core.List.{List, [], _∷_}
 use Prim.Native.Nat.{ℕ, suc, _+_, _-_, _<_}
 use native.Mathlib.Omega.{arith}
@@ -14,12 +15,15 @@ use Rattle.questions.specs.Questions.{allowedModulus}
 use Rattle.equations.specs.Vectors.{Below}
 use Rattle.equations.specs.Equation.{Equation}
 use Rattle.equations.proofs.Truth.{true-of}
-use Rattle.equations.proofs.Vectors.{all-below, below-take, below-at}
+use Rattle.equations.proofs.Vectors.{vector-below, all-below, below-take, below-at}
 use Rattle.words.specs.Words.{wordsIn, numbersOf}
 use Rattle.words.proofs.Words.{numbers-count}
+use Rattle.grammar.specs.Texts.{typedOf, equationIn}
+use Rattle.grammar.proofs.Texts.{passed}
+use Rattle.grammar.proofs.Solutions.{made-length, equation-shaped}
 use Rattle.ledger.specs.Ledger.{Ledger, unopened, opened, isOpened, modulusOf, unknownsOf, equationsIn, mostEquations}
 use Rattle.ledger.specs.Shapes.{isEquation}
-use Rattle.ledger.specs.Calls.{Entry, opens, adds, strikes, enters}
+use Rattle.ledger.specs.Calls.{Entry, opens, adds, types, strikes, enters}
 use Rattle.ledger.specs.Questions.{allowedUnknowns, refusalOf}
 use Rattle.ledger.specs.History.{Effect, begins, gains, loses, effectOf, changed, without, enter}
 use Rattle.ledger.proofs.Shapes.{equation-length}
@@ -29,8 +33,9 @@ pub record Gains (l : Ledger) (e : Equation) : Type 0 where
   pub opened : T (isOpened l)
   pub under : length (equationsIn l) < mostEquations
   pub shaped : length (e .coefficients) ≡ unknownsOf l
-  pub coefficients : Below (modulusOf l) (e .coefficients)
-  pub right : e .right < modulusOf l
+  -- its numbers are residues; mod 0 there are none
+  pub coefficients : 0 < modulusOf l → Below (modulusOf l) (e .coefficients)
+  pub right : 0 < modulusOf l → e .right < modulusOf l
 
 abbrev pub Allows : Ledger → Effect → Type 0
 Allows l (begins m n) = T (allowedModulus m) × T (allowedUnknowns n)
@@ -50,9 +55,22 @@ accepted-allows l (adds ws) none =
       opened = yes .0;
       under = ltb→lt (length (equationsIn l)) mostEquations (yes .1 .1 .0);
       shaped = length-take-le n numbers (omega (arith, long));
-      coefficients = below-take (modulusOf l) n numbers below;
-      right = below-at (modulusOf l) n numbers below (omega (arith, long));
+      coefficients = λ pos. below-take (modulusOf l) n numbers below;
+      right = λ pos. below-at (modulusOf l) n numbers below (omega (arith, long));
     }
+accepted-allows l (types text) none =
+    let yes = accepted-yes l (enters (types text)) none in
+    let m = modulusOf l in
+    let n = unknownsOf l in
+    let (e, is, _) = passed (λ e. true) (typedOf text) (yes .1 .0) in
+    subst (Gains l) (sym (ap (equationIn m n) is))
+    (record {
+      opened = yes .0;
+      under = ltb→lt (length (equationsIn l)) mostEquations (yes .1 .1 .1 .1 .0);
+      shaped = made-length m n e;
+      coefficients = λ pos. vector-below m n _ (equation-shaped m n e pos .0);
+      right = λ pos. equation-shaped m n e pos .1;
+    })
 accepted-allows l (strikes number) none =
     let yes = accepted-yes l (enters (strikes number)) none in
     (yes .0, omega (arith, ltb→lt 0 (length (equationsIn l)) (yes .1 .1 .0)))

@@ -8,7 +8,7 @@ use Prim.Native.Nat.{ℕ}
 use lib.Dec.{T}
 use Rattle.questions.proofs.Questions.{numbered, AllYes, all-yes}
 use Rattle.ledger.specs.Ledger.{Ledger, unopened}
-use Rattle.ledger.specs.Calls.{opens, adds, strikes}
+use Rattle.ledger.specs.Calls.{opens, adds, types, strikes}
 use Rattle.ledger.specs.Calls.{answers, answersFromTape, marks, meaningless}
 use Rattle.ledger.specs.Calls.{Call, enters, queries}
 use Rattle.ledger.specs.Questions.{questions, refusalOf}
@@ -16,6 +16,7 @@ use Rattle.ledger.specs.Questions.{questions, refusalOf}
 numbered-always : (l : Ledger) (c : Call) → T (numbered (questions l c))
 numbered-always l (enters (opens ws)) = tt
 numbered-always l (enters (adds ws)) = tt
+numbered-always l (enters (types text)) = tt
 numbered-always l (enters (strikes number)) = tt
 numbered-always l (queries (answers buffer)) = tt
 numbered-always l (queries (answersFromTape w)) = tt

@@ -3,10 +3,12 @@ use mathlib.Core.List.{List}
 use Prim.Native.Nat.{ℕ}
 
 -- The calls that open, add or strike, each "with its arguments other than the sheet". Words and buffers are given by what "their
--- memory holds at that call"; a strike has the number of its word on tape, or the place that a C caller names.
+-- memory holds at that call"; a strike has the number of its word on tape, or the place that a C caller names. "A typed equation is an
+-- add": it has the bytes of its text.
 pub data Entry : Type 0 where
   opens : List ℕ → Entry
   adds : List ℕ → Entry
+  types : List ℕ → Entry
   strikes : ℕ → Entry
 
 -- "those that neither open, add nor strike". "An answer word on tape with a number other than 0 is a refused call": an answer from

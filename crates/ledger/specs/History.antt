@@ -6,9 +6,10 @@ use lib.ListN.{length, take, drop}
 use Rattle.questions.specs.Questions.{unlessRefused}
 use Rattle.equations.specs.Equation.{Equation}
 use Rattle.words.specs.Words.{wordsIn}
-use Rattle.ledger.specs.Ledger.{Ledger, unopened, opened, unknownsOf, equationsIn}
+use Rattle.grammar.specs.Texts.{typedOf, equationIn}
+use Rattle.ledger.specs.Ledger.{Ledger, unopened, opened, modulusOf, unknownsOf, equationsIn}
 use Rattle.ledger.specs.Shapes.{numberAt, equationFrom}
-use Rattle.ledger.specs.Calls.{Entry, opens, adds, strikes, Call, enters, queries}
+use Rattle.ledger.specs.Calls.{Entry, opens, adds, types, strikes, Call, enters, queries}
 use Rattle.ledger.specs.Questions.{refusalOf}
 
 -- m and n with no equations; an equation more; the equation at this place, counted from 0, gone
@@ -20,6 +21,8 @@ pub data Effect : Type 0 where
 abbrev pub effectOf : Ledger → Entry → Effect
 effectOf l (opens ws) = begins (numberAt (wordsIn ws) 0) (numberAt (wordsIn ws) 1)
 effectOf l (adds ws) = gains (equationFrom (unknownsOf l) (wordsIn ws))
+-- "The unknowns' coefficients, brought to the left, and the plain numbers, brought to the right, all mod m, make the equation added."
+effectOf l (types text) = gains (equationIn (modulusOf l) (unknownsOf l) (typedOf text))
 -- "Accepted strike: the last equation goes."
 effectOf l (strikes number) = loses (length (equationsIn l) - 1)
 

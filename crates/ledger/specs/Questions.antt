@@ -1,4 +1,4 @@
--- The questions of document 01 about a call, asked of the ledger and the call's arguments, in the paper's order.
+-- The questions of documents 01 and 02 about a call, asked of the ledger and the call's arguments, in the paper's order.
 -- Definitions only.
 use mathlib.Core.Bool.{Bool, false, _&&_}
 use mathlib.Core.List.{List, [], _∷_}
@@ -9,10 +9,11 @@ use Rattle.questions.specs.Questions.{Question, asks, firstNo, allowedModulus}
 use Rattle.questions.specs.Reply.{fits}
 use Rattle.equations.specs.Multipliers.{allBelow}
 use Rattle.words.specs.Words.{wordOf, wordsIn, numbersOf}
+use Rattle.grammar.specs.Texts.{isTyped, isWithin, isLinear}
 use Rattle.ledger.specs.Ledger.{Ledger, isOpened, modulusOf, unknownsOf, equationsIn, mostEquations, mostUnknowns}
 use Rattle.ledger.specs.Shapes.{numberAt, isOpening, isEquation, isClaim, entriesOf}
 use Rattle.ledger.specs.Block.{answerWords}
-use Rattle.ledger.specs.Calls.{Call, opens, adds, strikes, answers, answersFromTape, marks, meaningless, enters, queries}
+use Rattle.ledger.specs.Calls.{Call, opens, adds, types, strikes, answers, answersFromTape, marks, meaningless, enters, queries}
 
 -- "n 1..16?"
 abbrev pub allowedUnknowns : ℕ → Bool
@@ -35,6 +36,14 @@ questions l (enters (adds ws)) =
     ∷ asks 1 (isEquation (unknownsOf l) (wordsIn ws))
     ∷ asks 5 (ltb (length (equationsIn l)) mostEquations)
     ∷ asks 6 (allBelow (modulusOf l) (numbersOf (wordsIn ws)))
+    ∷ []
+-- "after 4, not in the grammar or too long 11; then an unknown beyond n 12; then not linear 13; then 5"
+questions l (enters (types text)) =
+    asks 4 (isOpened l)
+    ∷ asks 11 (isTyped text)
+    ∷ asks 12 (isWithin (unknownsOf l) text)
+    ∷ asks 13 (isLinear text)
+    ∷ asks 5 (ltb (length (equationsIn l)) mostEquations)
     ∷ []
 -- "Strike: opened? 4. On tape, number 0? 1. An equation there? 7."
 questions l (enters (strikes number)) =

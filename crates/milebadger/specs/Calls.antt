@@ -35,7 +35,7 @@ minus k = negℤ (pos k)
 
 -- 10,000 times the major, 100 times the minor and the patch number: 1.0.0
 abbrev pub version : ℕ
-version = 10000
+version = 10100
 
 -- What the calls on a sheet give back, as a result: "the equations then held", how many words the block has, or 1 for a pass and 0 for
 -- a fail; or minus the number of the refusal.

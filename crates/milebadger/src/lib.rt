@@ -28,7 +28,7 @@ const FEW: u32 = 4;
 const FEW_NUMBERS: usize = 20;
 
 // The header's: 10,000 · 1 + 100 · 0 + 0.
-const VERSION: u32 = 10000;
+const VERSION: u32 = 10100;
 
 #[no_mangle]
 pub extern "C" fn milebadger_version() -> u32

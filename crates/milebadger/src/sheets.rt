@@ -1,7 +1,7 @@
 // The calls on a sheet that lies in the C program's own memory. They work there, and no sheet is copied. Where a call is refused, the
 // result is minus the question's number.
 ghost use mathlib.Core.Path.{_≡_};
-ghost use Rattle.ledger.specs.Calls.{opens, adds, strikes};
+ghost use Rattle.ledger.specs.Calls.{opens, adds, types, strikes};
 ghost use Rattle.sheet.specs.Record.{ledgerOf};
 ghost use Rattle.sheet.specs.Calls.{enteredOf, sheetAfter, answeredOf, bufferAfter, markedOf};
 ghost use Rattle.milebadger.specs.Calls.{enteredResult, answeredResult, markedResult};
@@ -29,6 +29,16 @@ pub extern "C" fn milebadger_add(sheet: &mut [u32; Sheet::SIZE], words: &[u32]) 
     ensures { λ _. ⌜ now (sheet .exit) ≡ sheetAfter (now (sheet .entry)) (adds (now (words .entry))) ⌝ }
 {
     let entered = Sheet::add(sheet, words);
+    entered_result(entered)
+}
+
+// Adds an equation that is typed as text: how many are then held.
+#[no_mangle]
+pub extern "C" fn milebadger_add_text(sheet: &mut [u32; Sheet::SIZE], text: &[u8]) -> i64
+    ensures { λ r. ⌜ r ≡ enteredResult (enteredOf (ledgerOf (now (sheet .entry))) (types (now (text .entry)))) ⌝ }
+    ensures { λ _. ⌜ now (sheet .exit) ≡ sheetAfter (now (sheet .entry)) (types (now (text .entry))) ⌝ }
+{
+    let entered = Sheet::add_text(sheet, text);
     entered_result(entered)
 }
 

@@ -1,5 +1,6 @@
 -- Questions asked one after the other.
 --   thenAsks        one question more, as the code asks it
+--   before-none     where nothing is refused then, nothing was before
 --   Asked           a number is what these questions give
 --   nothing-asked   before the first question
 --   then-asked      a question more: where those so far have the answer yes, its own answer decides
@@ -18,6 +19,10 @@ use Rattle.questions.proofs.Questions.{numbered, AllYes, all-yes, first
 -- what `ask` gives: the refusal so far, or, where there is none, this question's number if its answer is no
 abbrev pub thenAsks : ℕ → ℕ → Bool → ℕ
 thenAsks before number answer = unlessRefused (λ k. k) before (firstNo (asks number answer ∷ []))
+
+pub before-none : (before number : ℕ) (answer : Bool) → thenAsks before number answer ≡ 0 → before ≡ 0
+before-none zero number answer none = refl
+before-none (suc k) number answer none = rw (ne-eqb (suc k) 0 (λ e. omega arith)) at none
 
 pub record Asked (qs : List Question) (r : ℕ) : Type 0 where
   pub numbers : T (numbered qs)

@@ -1,6 +1,7 @@
--- Read in this order: Congruent, Divides, Negative, Euclid, Gcd, Digits, Chain, Bezout,
+-- Read in this order: Congruent, Whole, Divides, Negative, Euclid, Gcd, Digits, Chain, Bezout,
 -- Cofactors, Inverse, Congruence, Promises. Counted need not be read.
 pub mod Congruent
+pub mod Whole
 pub mod Divides
 pub mod Negative
 pub mod Euclid

@@ -1,11 +1,13 @@
 -- What open, add and strike give back.
 --   entry-refused                   the number of the question that turned the call away, and the sheet as it was
 --   open-is, open-accepted          an accepted opening has two words
---   add-opened, add-under           there is room for an accepted equation,
---   add-width, add-accepted         and its line is seen in the numbers
+--   gain-opened, gain-under, gain-width, gain-accepted   there is room for the line of an accepted equation, and it is written
+--   line-long, line-seen, line-lies   which is seen in the numbers of its words,
+--   modulus-some, typed-lies          or is what the reader gives
 --   strike-opened, strike-some, strike-place, strike-accepted   an accepted strike has an equation to strike
-use mathlib.Core.Path.{_≡_, refl, sym, ap, ap₂, _∙_}
+use mathlib.Core.Path.{_≡_, refl, sym, ap, ap₂, subst, _∙_}
 use mathlib.Core.List.{List}
+use mathlib.Core.Option.{Option}
 use Prim.Native.Nat.{ℕ, _+_, _-_, _<_}
 use native.Mathlib.Omega.{arith}
 use borrow.Author.Tests.{eq-eqb, ne-eqb}
@@ -13,13 +15,17 @@ use lib.Dec.{T}
 use lib.ListN.{length, take, getD, replicate}
 use Rattle.slices.specs.Over.{over}
 use Rattle.slices.proofs.Over.{over-front}
+use Rattle.equations.specs.Equation.{Equation}
 use Rattle.equations.specs.Lines.{equationAt}
+use Rattle.equations.proofs.Lines.{equation-front}
 use Rattle.equations.proofs.Truth.{true-of}
 use Rattle.words.specs.Words.{wordsIn, numbersOf}
 use Rattle.words.proofs.Words.{numbers-count}
 use Rattle.words.proofs.Unpacked.{all-seen, number-seen}
-use Rattle.ledger.specs.Ledger.{unopened, isOpened, unknownsOf, equationsIn, mostEquations}
-use Rattle.ledger.specs.Shapes.{numberAt, isOpening, isEquation}
+use Rattle.grammar.specs.Tree.{Sides}
+use Rattle.grammar.specs.Texts.{equationIn}
+use Rattle.ledger.specs.Ledger.{unopened, isOpened, modulusOf, unknownsOf, equationsIn, mostEquations}
+use Rattle.ledger.specs.Shapes.{numberAt, isOpening, isEquation, equationFrom}
 use Rattle.ledger.specs.Calls.{Entry, opens, adds, strikes, enters}
 use Rattle.ledger.specs.Questions.{refusalOf}
 use Rattle.ledger.specs.History.{Effect, gains, loses, effectOf, changed}
@@ -31,6 +37,7 @@ use Rattle.asking.specs.Sees.{Sees, openingRoom, equationRoom}
 use Rattle.sheet.specs.declared.Entered.the-variants.{Holds, Refused}
 use Rattle.sheet.specs.Record.{Sheet, unknownsIn, heldIn, sheetOf, room, ledgerOf, recordBy}
 use Rattle.sheet.specs.Calls.{enteredOf, sheetAfter}
+use Rattle.sheet.proofs.Reading.{reads-allowed}
 use Rattle.sheet.proofs.Opened.{seen-unknowns, seen-held}
 use Rattle.sheet.proofs.Few.{unknowns-few}
 
@@ -75,48 +82,69 @@ module _ (ws : List ℕ) (number : ℕ) (is : number ≡ refusalOf unopened (ent
         entry-accepted s (opens ws) number (open-is s) none _ refl 0 refl
         (made ∙ ap₂ (λ (m n : ℕ). sheetOf m n 0 (replicate room 0)) (number-is 0 (omega arith)) (number-is 1 (omega arith)))
 
+-- ---- an equation more
+
+module _ (s : Sheet) (e : Entry) (gained : Equation) (effect : effectOf (ledgerOf s) e ≡ gains gained) {seen : Seen}
+    (sees : Sees (ledgerOf s) seen) (number : ℕ) (is : number ≡ refusalOf (ledgerOf s) (enters e)) (none : number ≡ 0) where
+  allows : Gains (ledgerOf s) gained
+  allows = subst (Allows (ledgerOf s)) effect (accepted-allows (ledgerOf s) e (sym is ∙ none))
+
+  pub gain-opened : T (isOpened (ledgerOf s))
+  gain-opened = allows .opened
+
+  same-unknowns : seen .unknowns ≡ unknownsIn s
+  same-unknowns = seen-unknowns s (true-of (isOpened (ledgerOf s)) gain-opened) sees
+
+  pub gain-under : heldIn s < mostEquations
+  gain-under =
+      omega (arith, allows .under, sees .held, seen-held s (true-of (isOpened (ledgerOf s)) gain-opened) sees)
+
+  pub gain-width : {long : ℕ} → long ≡ seen .unknowns + 1 → long ≡ unknownsIn s + 1
+  gain-width is-long = is-long ∙ ap (λ (k : ℕ). k + 1) same-unknowns
+
+  -- the line of the equation is written
+  pub gain-accepted : (line : List ℕ) → equationAt (seen .unknowns) line ≡ gained
+      → {after : Sheet} → after ≡ recordBy s (gains (equationAt (unknownsIn s) line))
+      → (Holds (seen .held + 1) ≡ enteredOf (ledgerOf s) e) × (after ≡ sheetAfter s e)
+  gain-accepted line lies =
+      entry-accepted s e number is none (gains (equationAt (unknownsIn s) line))
+      (effect ∙ ap gains (sym lies ∙ ap (λ (n : ℕ). equationAt n line) same-unknowns)) (seen .held + 1)
+      (gains-counts (ledgerOf s) _ gain-opened ∙ ap (λ (k : ℕ). k + 1) (sym (sees .held)))
+
 -- ---- add
 
 module _ (s : Sheet) (ws : List ℕ) {seen : Seen} (sees : Sees (ledgerOf s) seen) (number : ℕ)
-    (is : number ≡ refusalOf (ledgerOf s) (enters (adds ws))) (none : number ≡ 0) where
-  allows : Gains (ledgerOf s) (equationAt (unknownsOf (ledgerOf s)) (numbersOf (wordsIn ws)))
-  allows = accepted-allows (ledgerOf s) (adds ws) (sym is ∙ none)
+    (is : number ≡ refusalOf (ledgerOf s) (enters (adds ws))) (none : number ≡ 0) (old : List ℕ) {new : List ℕ}
+    (front : new ≡ over (take equationRoom (numbersOf (wordsIn ws))) old) where
+  pub line-long : length (numbersOf (wordsIn ws)) ≡ seen .unknowns + 1
+  line-long =
+      numbers-count ws
+      ∙ equation-length (unknownsOf (ledgerOf s)) ws
+      (true-of (isEquation (unknownsOf (ledgerOf s)) (wordsIn ws)) (accepted-yes (ledgerOf s) (enters (adds ws)) (sym is ∙ none) .1 .0))
+      ∙ ap (λ (k : ℕ). k + 1) (sym (sees .unknowns))
 
-  pub add-opened : T (isOpened (ledgerOf s))
-  add-opened = allows .opened
+  pub line-seen : take (seen .unknowns + 1) new ≡ numbersOf (wordsIn ws)
+  line-seen =
+      let few = unknowns-few s in
+      over-front (seen .unknowns + 1) (numbersOf (wordsIn ws)) old
+      (all-seen equationRoom ws old front (omega (arith, line-long, numbers-count ws, sees .unknowns))) line-long
 
-  same-unknowns : seen .unknowns ≡ unknownsIn s
-  same-unknowns = seen-unknowns s (true-of (isOpened (ledgerOf s)) add-opened) sees
+  pub line-lies : equationAt (seen .unknowns) (take (seen .unknowns + 1) new) ≡ equationFrom (unknownsOf (ledgerOf s)) (wordsIn ws)
+  line-lies = ap₂ equationAt (sees .unknowns) line-seen
 
-  held-is : length (equationsIn (ledgerOf s)) ≡ heldIn s
-  held-is = sym (sees .held) ∙ seen-held s (true-of (isOpened (ledgerOf s)) add-opened) sees
+-- ---- a typed equation
 
-  pub add-under : heldIn s < mostEquations
-  add-under = omega (arith, allows .under, held-is)
+-- what an opened sheet is seen to have is a modulus
+pub modulus-some : (s : Sheet) {seen : Seen} → Sees (ledgerOf s) seen → T (seen .opened) → 0 < seen .modulus
+modulus-some s sees is =
+    omega (arith, sees .modulus, reads-allowed s (subst T (sees .opened) is) .modulus)
 
-  module _ (old : List ℕ) {new : List ℕ} (front : new ≡ over (take equationRoom (numbersOf (wordsIn ws))) old) where
-    long : length (numbersOf (wordsIn ws)) ≡ seen .unknowns + 1
-    long =
-        numbers-count ws
-        ∙ equation-length (unknownsOf (ledgerOf s)) ws
-        (true-of (isEquation (unknownsOf (ledgerOf s)) (wordsIn ws)) (accepted-yes (ledgerOf s) (enters (adds ws)) (sym is ∙ none) .1 .0))
-        ∙ ap (λ (k : ℕ). k + 1) (sym (sees .unknowns))
-
-    add-line : take (seen .unknowns + 1) new ≡ numbersOf (wordsIn ws)
-    add-line =
-        let few = unknowns-few s in
-        over-front (seen .unknowns + 1) (numbersOf (wordsIn ws)) old
-        (all-seen equationRoom ws old front (omega (arith, long, numbers-count ws, sees .unknowns))) long
-
-    pub add-width : length (take (seen .unknowns + 1) new) ≡ unknownsIn s + 1
-    add-width = ap length add-line ∙ long ∙ ap (λ (k : ℕ). k + 1) same-unknowns
-
-    pub add-accepted : {after : Sheet} → after ≡ recordBy s (gains (equationAt (unknownsIn s) (take (seen .unknowns + 1) new)))
-        → (Holds (seen .held + 1) ≡ enteredOf (ledgerOf s) (adds ws)) × (after ≡ sheetAfter s (adds ws))
-    add-accepted =
-        entry-accepted s (adds ws) number is none (gains (equationAt (unknownsIn s) (take (seen .unknowns + 1) new)))
-        (ap₂ (λ (n : ℕ) (xs : List ℕ). gains (equationAt n xs)) (sym (sees .unknowns) ∙ same-unknowns) (sym add-line))
-        (seen .held + 1) (gains-counts (ledgerOf s) _ add-opened ∙ ap (λ (k : ℕ). k + 1) (sym (sees .held)))
+-- the line of what is typed, at the front of more numbers
+pub typed-lies : (s : Sheet) (x : Option Sides) {seen : Seen} → Sees (ledgerOf s) seen → (line : List ℕ)
+    → equationAt (seen .unknowns) line ≡ equationIn (seen .modulus) (seen .unknowns) x
+    → equationAt (seen .unknowns) (take (seen .unknowns + 1) line) ≡ equationIn (modulusOf (ledgerOf s)) (unknownsOf (ledgerOf s)) x
+typed-lies s x {seen} sees line lies =
+    equation-front (seen .unknowns) line ∙ lies ∙ ap₂ (λ (m n : ℕ). equationIn m n x) (sees .modulus) (sees .unknowns)
 
 -- ---- strike
 

@@ -12,4 +12,5 @@ pub mod MarkGiven
 pub mod History
 pub mod Answers
 pub mod Marks
+pub mod Typed
 pub mod Promises

@@ -114,10 +114,11 @@ module _ (s : Sheet) (f : Fit s) where
   reads-gaining : (e : Equation) → Gains (lying s) e → heldIn s < mostEquations
       → ledgerOf (recordBy s (gains e)) ≡ changed (lying s) (gains e)
   reads-gaining e g under =
+      let pos : 0 < modulusIn s = omega (arith, f .modulus) in
       let line = e .coefficients ++ (e .right ∷ []) in
       let long : length line ≡ unknownsIn s + 1 = omega (arith, length-append (e .coefficients) (e .right ∷ []), g .shaped) in
       rewritten (heldIn s + 1) (filled s) line (omega arith) (omega (arith, long)) (more-fits under) (f .residues)
-      (below-append (modulusIn s) (e .coefficients) (e .right ∷ []) (g .coefficients) (g .right, tt)) _
+      (below-append (modulusIn s) (e .coefficients) (e .right ∷ []) (g .coefficients pos) (g .right pos, tt)) _
       (equations-snoc (heldIn s) (unknownsIn s) (linesIn s) line (length-lines s f) long
       ∙ ap (λ (last : Equation). equationsOf (unknownsIn s) (linesIn s) ++ (last ∷ [])) (equation-line (unknownsIn s) e (g .shaped)))
 

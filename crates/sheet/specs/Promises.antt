@@ -5,7 +5,7 @@
 -- buffer. `after` puts the sheet that a call left into the next call. So `after calls` is what the caller's memory holds after the calls,
 -- and what is promised here of those names at that sheet is what the next call does. `ledger` sees the calls alone. Definitions only.
 use mathlib.Core.Path.{_≡_}
-use mathlib.Core.Logic.{_↔_}
+use mathlib.Core.Logic.{_↔_, _⊎_}
 use mathlib.Core.List.{List, [], _∷_, _++_, flatten}
 use mathlib.Core.Option.{some}
 use Prim.Native.Nat.{ℕ, suc, _<_, _≤_}
@@ -14,19 +14,22 @@ use lib.ListN.{length, take, getD, replicate}
 use Rattle.slices.specs.Over.{over}
 use Rattle.questions.specs.Questions.{unlessRefused}
 use Rattle.equations.specs.Vectors.{Vector}
-use Rattle.equations.specs.Equation.{Equation, solves}
+use Rattle.equations.specs.Equation.{Equation, solvesOne, solves}
 use Rattle.equations.specs.Answer.{startOf, stepsOf}
 use Rattle.equations.specs.Multipliers.{refutes, allBelow}
 use Rattle.equations.specs.declared.Mark.the-variants.{Pass, Fail}
 use Rattle.equations.specs.Claim.{Claim, describes}
 use Rattle.system.specs.Block.{answerOf}
 use Rattle.words.specs.Words.{word, wordsIn, wordsOf, headKind, entryKind, multiplierKind}
+use Rattle.grammar.specs.Tree.{Sides}
+use Rattle.grammar.specs.Grammar.{Typed, largestText}
+use Rattle.grammar.specs.Meaning.{HoldsMod}
 use Rattle.ledger.specs.Ledger.{unopened, opened, modulusOf, unknownsOf, equationsIn}
 use Rattle.ledger.specs.Allowed.{Allowed}
 use Rattle.ledger.specs.Shapes.{isClaim, entriesOf, claimFrom}
 use Rattle.ledger.specs.Block.{longestBlock, blockWords, answerWords}
 use Rattle.ledger.specs.Marking.{claimMark}
-use Rattle.ledger.specs.Calls.{Call, Entry, opens, answers, answersFromTape, marks, enters, queries}
+use Rattle.ledger.specs.Calls.{Call, Entry, opens, types, answers, answersFromTape, marks, enters, queries}
 use Rattle.ledger.specs.Questions.{plain, refusalOf}
 use Rattle.ledger.specs.History.{enter, ledgerFrom, ledger}
 use Rattle.sheet.specs.declared.Entered.the-variants.{Holds, Refused as Entered·Refused}
@@ -35,7 +38,7 @@ use Rattle.sheet.specs.declared.answering.Shown.{Shown}
 use Rattle.sheet.specs.declared.marking.Marked.{Marked}
 use Rattle.sheet.specs.declared.marking.Marked.the-variants.{Gets, Refused as Marked·Refused}
 use Rattle.sheet.specs.Record.{Sheet, size, ledgerOf}
-use Rattle.sheet.specs.Calls.{enteredOf, answeredOf, bufferAfter, noBlock, shownOf, markedOf}
+use Rattle.sheet.specs.Calls.{enteredOf, sheetAfter, answeredOf, bufferAfter, noBlock, shownOf, markedOf}
 use Rattle.sheet.specs.History.{left, sheetFrom, after}
 
 -- "refused calls anywhere in it and at least one opening accepted": by the questions, asked of the ledger at that place
@@ -156,3 +159,21 @@ RightAlways = (s : Sheet) (m n : ℕ) (es : List Equation) → ledgerOf s ≡ op
 -- And calls go on from the ledger that they read as.
 abbrev pub ReadsOn : Type 0
 ReadsOn = (s : Sheet) (calls : List Call) → ledgerOf (sheetFrom s calls) ≡ ledgerFrom (ledgerOf s) calls
+
+-- "texts outside this grammar or over 256 bytes"
+abbrev pub NoEquation : List ℕ → Type 0
+NoEquation text = ((e : Sides) → Typed e text → ⊥) ⊎ (largestText < length text)
+
+-- What document 02 says of an equation typed as text, S-1, on a sheet whose ledger has m, n and es.
+pub record RightTyping (s : Sheet) (m n : ℕ) (es : List Equation) (text : List ℕ) : Type 0 where
+  -- "On an opened sheet 11 is given exactly for texts outside this grammar or over 256 bytes"
+  pub eleven : (enteredOf (ledgerOf s) (types text) ≡ Entered·Refused 11) ↔ NoEquation text
+  -- "and an accepted text holds mod m at exactly the vectors that solve the equation added."
+  pub accepted : (k : ℕ) → enteredOf (ledgerOf s) (types text) ≡ Holds k
+      → (e : Sides) × (added : Equation) × Typed e text
+      × (ledgerOf (sheetAfter s (types text)) ≡ opened m n (es ++ (added ∷ [])))
+      × ((v : List ℕ) → HoldsMod m e v ↔ T (solvesOne m added v))
+
+-- Whatever the memory holds, and so after every list of calls.
+abbrev pub TypedAlways : Type 0
+TypedAlways = (s : Sheet) (m n : ℕ) (es : List Equation) (text : List ℕ) → ledgerOf s ≡ opened m n es → RightTyping s m n es text

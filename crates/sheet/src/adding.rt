@@ -37,7 +37,7 @@ impl Sheet {
 }
 
 // The equation goes behind the last, also where nothing solves those before it.
-fn with_line(sheet: &mut [u32], line: &[u32])
+pub(crate) fn with_line(sheet: &mut [u32], line: &[u32])
     requires { ⌜ T (isOpened (ledgerOf (now sheet))) × (heldIn (now sheet) < mostEquations)
         × (length (now line) ≡ unknownsIn (now sheet) + 1) ⌝ }
     ensures { λ _. ⌜ now (sheet .exit)

@@ -5,6 +5,7 @@ pub mod answering;
 pub mod marking;
 pub mod opening;
 pub mod striking;
+pub mod typing;
 pub mod viewing;
 
 ghost use mathlib.Core.Path.{_≡_};

@@ -13,7 +13,7 @@ use Rattle.system.specs.Claims.{vectorsWithin}
 use Rattle.ledger.specs.Ledger.{Ledger, unopened, modulusOf, unknownsOf, equationsIn}
 use Rattle.ledger.specs.Shapes.{numberAt}
 use Rattle.ledger.specs.Marking.{claimMark}
-use Rattle.ledger.specs.Calls.{Entry, opens, adds, strikes, answers, answersFromTape, marks, meaningless}
+use Rattle.ledger.specs.Calls.{Entry, opens, adds, types, strikes, answers, answersFromTape, marks, meaningless}
 use Rattle.ledger.specs.Calls.{Call, enters, queries}
 use Rattle.ledger.specs.Questions.{refusalOf}
 use Rattle.ledger.specs.History.{enter}
@@ -52,6 +52,8 @@ markLine Fail = line "fail" []
 abbrev pub acceptedLines : Ledger → Call → List ℕ
 acceptedLines l (enters (opens ws)) = line "open" (numberAt (wordsIn ws) 0 ∷ numberAt (wordsIn ws) 1 ∷ [])
 acceptedLines l (enters (adds ws)) = line "added" (heldAfter l (adds ws))
+-- on tape there is no text; it would be an add
+acceptedLines l (enters (types text)) = line "added" (heldAfter l (types text))
 acceptedLines l (enters (strikes number)) = line "struck" (heldAfter l (strikes number))
 acceptedLines l (queries (answers buffer)) = answerLines l
 acceptedLines l (queries (answersFromTape w)) = answerLines l

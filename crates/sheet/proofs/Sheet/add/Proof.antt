@@ -1,15 +1,15 @@
 -- `Sheet::add` meets its contract: a refused equation keeps the sheet, and the line of an accepted one is what was seen of its words.
-use mathlib.Core.Path.{sym}
-use Prim.Native.Nat.{_+_}
+use mathlib.Core.Path.{refl, sym, ap, _∙_}
+use Prim.Native.Nat.{ℕ, _+_}
 use native.Mathlib.Omega.{arith}
 use borrow.Author.Needs.{needs}
 use denote.Ref.{now}
-use lib.ListN.{replicate}
+use lib.ListN.{length, replicate}
 use lib.Seq.{length-take-le}
 use Rattle.ledger.specs.Calls.{adds}
 use Rattle.asking.specs.Sees.{equationRoom}
 use Rattle.sheet.specs.Record.{ledgerOf}
-use Rattle.sheet.proofs.Entering.{entry-refused, add-opened, add-under, add-width as line-width, add-accepted}
+use Rattle.sheet.proofs.Entering.{entry-refused, gain-opened, gain-under, gain-width, gain-accepted, line-long, line-seen, line-lies}
 use Rattle.sheet.proofs.Sheet.add.Statement.{statement}
 use Rattle.sheet.proofs.Sheet.add.Tie as tie
 
@@ -46,13 +46,18 @@ with-line-requires : tie.Need-with-line-requires
 with-line-requires c κs =
     let a = c .before .before .before .before .before .before .before .before .before .before .args in
     let s = now (a .sheet) in
+    let ws = now (a .words) in
     let seen = c .before .before .before .before .before .before .before .seen in
+    let sees = seen .ensures .0 in
     let asked = c .before .before .before .before .before .add-refusal in
-    let is = asked .ensures .0 (ledgerOf s) (seen .ensures .0) in
-    let accepted = c .before .before .before .if1 .left in (
-      add-opened s (now (a .words)) (seen .ensures .0) (asked .result) is accepted,
-      add-under s (now (a .words)) (seen .ensures .0) (asked .result) is accepted,
-      line-width s (now (a .words)) (seen .ensures .0) (asked .result) is accepted (replicate equationRoom 0) (asked .ensures .1),
+    let is = asked .ensures .0 (ledgerOf s) sees in
+    let accepted = c .before .before .before .if1 .left in
+    let zeros = replicate {A = ℕ} equationRoom 0 in (
+      gain-opened s (adds ws) _ refl sees (asked .result) is accepted,
+      gain-under s (adds ws) _ refl sees (asked .result) is accepted,
+      gain-width s (adds ws) _ refl sees (asked .result) is accepted
+          (ap length (line-seen s ws sees (asked .result) is accepted zeros (asked .ensures .1))
+          ∙ line-long s ws sees (asked .result) is accepted zeros (asked .ensures .1)),
     )
 
 add-t16 : tie.Need-add-t16
@@ -62,11 +67,14 @@ returns-2 : tie.Need-returns-2
 returns-2 c =
     let a = c .before .before .before .before .before .before .before .before .before .before .before .before .args in
     let s = now (a .sheet) in
+    let ws = now (a .words) in
     let seen = c .before .before .before .before .before .before .before .before .before .seen in
+    let sees = seen .ensures .0 in
     let asked = c .before .before .before .before .before .before .before .add-refusal in
-    let is = asked .ensures .0 (ledgerOf s) (seen .ensures .0) in
-    add-accepted s (now (a .words)) (seen .ensures .0) (asked .result) is (c .before .before .before .before .before .if1 .left) (replicate equationRoom 0)
-    (asked .ensures .1) (c .before .with-line .ensures)
+    let is = asked .ensures .0 (ledgerOf s) sees in
+    let accepted = c .before .before .before .before .before .if1 .left in
+    gain-accepted s (adds ws) _ refl sees (asked .result) is accepted _
+    (line-lies s ws sees (asked .result) is accepted (replicate equationRoom 0) (asked .ensures .1)) (c .before .with-line .ensures)
 
 pub add-spec : {M : Type 1} → statement M
 add-spec =

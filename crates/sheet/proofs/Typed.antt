@@ -1,0 +1,88 @@
+-- What is said of a typed equation, `right-typing`, where the ledger that a sheet reads as is opened.
+use mathlib.Core.Path.{_≡_, refl, sym, ap, subst, _∙_}
+use mathlib.Core.Logic.{_↔_}
+use mathlib.Core.Bool.{Bool, true, false, cond}
+use mathlib.Core.List.{List, [], _∷_, _++_}
+use Prim.Native.Nat.{ℕ, _<_}
+use native.Mathlib.Omega.{arith}
+use borrow.Author.Tests.{eqb-true}
+use lib.Dec.{T, eqb}
+use Rattle.equations.specs.Equation.{Equation, solvesOne}
+use Rattle.grammar.specs.Tree.{Sides}
+use Rattle.grammar.specs.Grammar.{Typed}
+use Rattle.grammar.specs.Meaning.{HoldsMod}
+use Rattle.grammar.specs.Linear.{sidesWithin, sidesLinear, equationOf}
+use Rattle.grammar.specs.Texts.{typedOf, passes, equationIn}
+use Rattle.grammar.proofs.Texts.{not-typed, passed, read-typed}
+use Rattle.grammar.proofs.Promises.{holds-exactly}
+use Rattle.ledger.specs.Ledger.{Ledger, opened}
+use Rattle.ledger.specs.Calls.{types, enters}
+use Rattle.ledger.specs.Questions.{refusalOf}
+use Rattle.ledger.specs.History.{enter}
+use Rattle.ledger.proofs.Questions.{accepted-yes}
+use Rattle.ledger.proofs.Effects.{enter-accepted}
+use Rattle.ledger.proofs.Typing.{eleven-given}
+use Rattle.sheet.specs.declared.Entered.the-variants.{Holds, Refused}
+use Rattle.sheet.specs.Record.{Sheet, ledgerOf}
+use Rattle.sheet.specs.Calls.{enteredOf}
+use Rattle.sheet.specs.Promises.{NoEquation, RightTyping}
+use Rattle.sheet.proofs.Turns.{reads-after}
+
+-- ---- what a call says, and the number of its refusal
+
+refused-is : (r k j : ℕ) → cond (eqb r 0) (Holds k) (Refused r) ≡ Refused j → r ≡ j
+refused-is r k j = by (eqb r 0)
+  where
+    by : (b : Bool) → cond b (Holds k) (Refused r) ≡ Refused j → r ≡ j
+    by true is = let z : _≡_ {A = ℕ} 0 1 = cc in absurd (omega arith)
+    by false is = cc
+
+holds-is : (r k j : ℕ) → cond (eqb r 0) (Holds k) (Refused r) ≡ Holds j → r ≡ 0
+holds-is r k j = by (eqb r 0) refl
+  where
+    by : (b : Bool) → eqb r 0 ≡ b → cond b (Holds k) (Refused r) ≡ Holds j → r ≡ 0
+    by true e is = eqb-true r 0 e
+    by false e is = let z : _≡_ {A = ℕ} 0 1 = cc in absurd (omega arith)
+
+module _ (m n : ℕ) (es : List Equation) (text : List ℕ) where
+  abbrev l : Ledger
+  l = opened m n es
+
+  eleven-said : (enteredOf l (types text) ≡ Refused 11) ↔ NoEquation text
+  unfolding enteredOf
+  eleven-said = (
+    (λ said. not-typed text .0 (eleven-given m n es text .0 (refused-is (refusalOf l (enters (types text))) _ 11 said))),
+    λ out. rw (eleven-given m n es text .1 (not-typed text .1 out)),
+  )
+
+  holds-said : (k : ℕ) → enteredOf l (types text) ≡ Holds k → refusalOf l (enters (types text)) ≡ 0
+  unfolding enteredOf
+  holds-said k said = holds-is (refusalOf l (enters (types text))) _ k said
+
+  -- the equation that is typed in an accepted text, and the one added
+  typed-added : 0 < m → refusalOf l (enters (types text)) ≡ 0
+      → (e : Sides) × Typed e text × (equationIn m n (typedOf text) ≡ equationOf m n e)
+      × ((v : List ℕ) → HoldsMod m e v ↔ T (solvesOne m (equationOf m n e) v))
+  typed-added pos none =
+      let yes = accepted-yes l (enters (types text)) none in
+      let (e, is, among) = passed (sidesWithin n) (typedOf text) (yes .1 .1 .0) in
+      let linear : T (sidesLinear e) = subst (λ x. T (passes sidesLinear x)) is (yes .1 .1 .1 .0) in
+      (e, read-typed e text is .0, ap (equationIn m n) is, holds-exactly m n e pos among linear)
+
+pub right-typing : (s : Sheet) (m n : ℕ) (es : List Equation) (text : List ℕ) → ledgerOf s ≡ opened m n es → 0 < m
+    → RightTyping s m n es text
+right-typing s m n es text reads pos =
+    record {
+      eleven = subst (λ (l : Ledger). (enteredOf l (types text) ≡ Refused 11) ↔ NoEquation text) (sym reads) (eleven-said m n es text);
+      accepted = λ k said.
+          let none = holds-said m n es text k (ap (λ (l : Ledger). enteredOf l (types text)) (sym reads) ∙ said) in
+          let (e, typed, same, solved) = typed-added m n es text pos none in (
+            e,
+            equationOf m n e,
+            typed,
+            reads-after s (types text) ∙ ap (λ (l : Ledger). enter l (enters (types text))) reads
+                ∙ enter-accepted (opened m n es) (types text) none
+                ∙ ap (λ (new : Equation). opened m n (es ++ (new ∷ []))) same,
+            solved,
+          );
+    }
