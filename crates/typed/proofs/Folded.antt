@@ -9,10 +9,12 @@ use mathlib.Core.Bool.{Bool, _&&_, _||_}
 use mathlib.Core.List.{List, [], _∷_}
 use Prim.Native.Nat.{ℕ, zero, suc, _*_, _+_, _%_, _≤_, max}
 use native.Mathlib.Omega.{arith}
-use borrow.Author.Tests.{lt-ltb, leb-true, le-leb}
-use lib.Dec.{ltb, leb}
+use borrow.Author.Tests.{lt-ltb, le-leb}
+use lib.Dec.{ltb, leb, leb→le, le→leb}
 use lib.ListN.{length, take, replicate}
+use mir.Facts.{and-yes, yes-and}
 use Rattle.equations.specs.Vectors.{combine}
+use Rattle.equations.proofs.Truth.{same-of-both}
 use Rattle.grammar.specs.Tree.{Tree, Sides, number, unknown, minus, sum, difference, product}
 use Rattle.grammar.specs.Model.Algebra.{fold}
 use Rattle.grammar.specs.Grammar.{Typed, largestUnknown}
@@ -20,19 +22,19 @@ use Rattle.grammar.specs.Linear.{unit, minusOne, hasUnknown, within, linear, co
 use Rattle.grammar.specs.Model.Reader.{found, sidesOf}
 use Rattle.grammar.proofs.Meaning.{length-coefficients}
 use Rattle.typed.specs.Model.Forms.{largest, zeroForm, addedForm, productForm, forms, formOf, formsEquation}
-use Rattle.grammar.proofs.Tests.{both, both-left, both-right, same-test}
 use Rattle.grammar.proofs.Equations.{sides-complete}
 
 -- ---- the last unknown
 
 max-within : (n a b : ℕ) → leb (max a b) n ≡ (leb a n && leb b n)
 max-within n a b =
-    same-test _ _
-    (λ h. let k : max a b ≤ n = leb-true (max a b) n h in
-    both (leb a n) (leb b n) (le-leb a n (omega arith)) (le-leb b n (omega arith)))
-    (λ h. let p : a ≤ n = leb-true a n (both-left (leb a n) (leb b n) h) in
-    let q : b ≤ n = leb-true b n (both-right (leb a n) (leb b n) h) in
-    le-leb (max a b) n (omega arith))
+    same-of-both (leb (max a b) n) (leb a n && leb b n)
+    (λ h. let most = leb→le (max a b) n h in yes-and (leb a n) (leb b n) (le→leb a n (omega arith)) (le→leb b n (omega arith)))
+    (λ h.
+    let (p, q) = and-yes (leb a n) (leb b n) h in
+    let first = leb→le a n p in
+    let second = leb→le b n q in
+    le→leb (max a b) n (omega arith))
 
 max-some : (a b : ℕ) → ltb 0 (max a b) ≡ (ltb 0 a || ltb 0 b)
 max-some zero zero = refl

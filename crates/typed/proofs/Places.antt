@@ -4,19 +4,18 @@
 --   inside, sign-inside           a place at which a byte stands
 --   skip-on, skip-end             a space is passed, anything else is not
 --   digit-on, digit-end           a digit is taken, anything else is not
---   front-combine                 one more entry of a combination
+--   entry-combine                 an entry of a combination
 --   set-unit                      the unit vector, by one store
 use mathlib.Core.Path.{_≡_, refl, ap, sym, _∙_}
 use mathlib.Core.Bool.{true, false, false≢true}
-use mathlib.Core.List.{List, [], _∷_, _++_}
+use mathlib.Core.List.{List, [], _∷_}
 use Prim.Native.Nat.{ℕ, zero, suc, _+_, _-_, _*_, _%_, _≤_, _<_}
 use native.Mathlib.Numerals.{add-one}
 use native.Mathlib.Omega.{arith}
 use borrow.Author.Tests.{eq-eqb, ne-eqb}
-use lib.ListN.{length, drop, take, getD, set, replicate, drop-of-length-le}
-use lib.Seq.{drop-cons, take-suc, set-at, append-snoc, length-take-le}
+use lib.ListN.{length, drop, getD, set, replicate, drop-of-length-le}
+use lib.Seq.{drop-cons}
 use Rattle.equations.specs.Vectors.{combine}
-use Rattle.equations.proofs.Dot.{length-combine}
 use Rattle.grammar.specs.Linear.{unit}
 use Rattle.grammar.specs.Model.Reader.{next, tail, skip, isDigit, digits, behind, isSign}
 
@@ -74,26 +73,12 @@ sign-inside s i e =
 
 -- ---- arrays
 
-entry-combine : (m s t : ℕ) (a b : List ℕ) (j : ℕ) → length a ≡ length b → j < length a
+pub entry-combine : (m s t : ℕ) (a b : List ℕ) (j : ℕ) → length a ≡ length b → j < length a
     → getD (combine m s t a b) j 0 ≡ (s * getD a j 0 + t * getD b j 0) % m
 entry-combine m s t [] b j e h = absurd (omega arith)
 entry-combine m s t (x ∷ a) [] j e h = absurd (omega arith)
 entry-combine m s t (x ∷ a) (y ∷ b) zero e h = refl
 entry-combine m s t (x ∷ a) (y ∷ b) (suc j) e h = entry-combine m s t a b j (omega arith) (omega arith)
-
-front-step : (d s : List ℕ) (i z : ℕ) → i < length d → i < length s
-    → set (take i s ++ drop i d) i (getD s i z) ≡ take (i + 1) s ++ drop (i + 1) d
-front-step d s i z hd hs =
-    rw (add-one, drop-cons d i 0, take-suc s i z)
-    (set-at (take i s) (getD d i 0) (drop (suc i) d) (getD s i z) i (length-take-le i s (omega arith))
-    ∙ sym (append-snoc (take i s) (getD s i z) (drop (suc i) d)))
-
-pub front-combine : (m s t : ℕ) (a b d : List ℕ) (j x : ℕ) → length a ≡ length b → length d ≡ length a → j < length a
-    → x ≡ (s * getD a j 0 + t * getD b j 0) % m
-    → set (take j (combine m s t a b) ++ drop j d) j x ≡ take (j + 1) (combine m s t a b) ++ drop (j + 1) d
-front-combine m s t a b d j x e k h p =
-    rw (p ∙ sym (entry-combine m s t a b j e h))
-    (front-step d (combine m s t a b) j 0 (omega arith) (omega (arith, length-combine m s t a b e)))
 
 pub set-unit : (w j : ℕ) → set (replicate w 0) j 1 ≡ unit w j
 set-unit zero j = refl

@@ -1,35 +1,34 @@
--- `combine_all` meets its contract. The invariant: the first j entries are those of the combination, the others are 0 still.
+-- `combine_all` meets its contract: a loop that writes the combination over zeros, an entry a turn.
 use borrow.Author.Needs.{needs}
-use mathlib.Core.Path.{_≡_, refl, sym, _∙_}
-use mathlib.Core.List.{List, _++_, append-nil}
-use Prim.Native.Nat.{ℕ, _-_, _+_, _≤_}
+use mathlib.Core.Path.{_≡_, sym, _∙_}
+use mathlib.Core.List.{List}
+use Prim.Native.Nat.{ℕ, _-_}
 use native.Mathlib.Omega.{arith}
-use lib.ListN.{length, drop, take, length-set, replicate}
-use lib.Seq.{take-all}
-use Rattle.equations.proofs.Dot.{length-combine}
+use lib.ListN.{length, replicate}
+use Rattle.slices.proofs.Over.{over-whole}
+use Rattle.slices.proofs.Copied.{Copied, copied-none, copied-more, copied-all}
 use Rattle.equations.specs.Vectors.{combine}
-use Rattle.typed.proofs.Places.{front-combine}
+use Rattle.equations.proofs.Dot.{length-combine}
+use Rattle.typed.proofs.Places.{entry-combine}
 use Rattle.typed.proofs.forms.combine_all.Statement.{statement}
 use Rattle.typed.proofs.forms.combine_all.Tie as tie
 
 abbrev zeros : List ℕ
 zeros = replicate 16 0
 
-whole : (m s t j : ℕ) (a b : List ℕ) → length a ≡ 16 → length b ≡ 16 → j ≡ 16
-    → take j (combine m s t a b) ++ drop j zeros ≡ combine m s t a b
-whole m s t j a b p q e =
-    let n : length (combine m s t a b) ≡ 16 = length-combine m s t a b (p ∙ sym q) ∙ p in
-    rw (e, take-all 16 (combine m s t a b) (omega arith), append-nil)
+combined : (m s t : ℕ) (a b : List ℕ) → length a ≡ 16 → length b ≡ 16 → length (combine m s t a b) ≡ 16
+combined m s t a b p q = length-combine m s t a b (p ∙ sym q) ∙ p
 
 abbrev Inv-loop : tie.InvT-loop
-Inv-loop s t m a b out₀ j₀ out j = (j ≤ 16) × (length a ≡ 16) × (length b ≡ 16) × (length out₀ ≡ 16) ×
-    (length out ≡ 16) × (out ≡ take j (combine m s t a b) ++ drop j out₀)
+Inv-loop s t m a b out₀ j₀ out j = (length a ≡ 16) × (length b ≡ 16) × Copied j (combine m s t a b) zeros out
 
 abbrev μ-loop : tie.MeasureT-loop
 μ-loop s t m a b out₀ j₀ out j = 16 - j
 
 loop-holds : tie.Need-loop-holds Inv-loop μ-loop
-loop-holds c = (search needs, search needs, search needs, search needs, search needs, refl)
+loop-holds c =
+    let x = c .args in
+    (search needs, search needs, copied-none (combine (x .m) (x .s) (x .t) (x .t2) (x .t4)) zeros)
 
 mul-combine-entry : tie.Need-mul-combine-entry Inv-loop μ-loop
 mul-combine-entry c = search needs
@@ -60,24 +59,23 @@ loop-less c = search needs
 
 loop-again : tie.Need-loop-again Inv-loop μ-loop
 loop-again c =
-    let a = c .before .before .before .args in
-    let l = c .before .before .loop in (
-      omega arith,
-      l .inv .1,
-      l .inv .2,
-      refl,
-      simp length-set (l .inv .4),
-      rw (l .inv .5)
-          (front-combine (a .m) (a .s) (a .t) (a .t2) (a .t4) zeros (l .j) (c .combine-entry .result)
-          (l .inv .1 ∙ sym (l .inv .2))
-          (sym (l .inv .1)) (omega arith) (c .combine-entry .ensures)),
+    let x = c .before .before .before .args in
+    let l = c .before .before .loop in
+    let (left, right, copied) = l .inv in
+    let long = combined (x .m) (x .s) (x .t) (x .t2) (x .t4) left right in (
+      left,
+      right,
+      copied-more (l .j) _ zeros 0 copied (omega arith) (omega arith)
+          (c .combine-entry .ensures ∙ sym (entry-combine (x .m) (x .s) (x .t) (x .t2) (x .t4) (l .j) (left ∙ sym right) (omega arith))),
     )
 
 returns : tie.Need-returns Inv-loop μ-loop
 returns c =
-    let a = c .before .before .args in
+    let x = c .before .before .args in
     let l = c .before .loop in
-    l .inv .5 ∙ whole (a .m) (a .s) (a .t) (l .j) (a .t2) (a .t4) (l .inv .1) (l .inv .2) (omega arith)
+    let (left, right, copied) = l .inv in
+    let long = combined (x .m) (x .s) (x .t) (x .t2) (x .t4) left right in
+    copied-all (l .j) _ zeros copied (omega (arith, copied .0)) ∙ over-whole _ zeros long
 
 pub combine-all-spec : {M : Type 1} → statement M
 combine-all-spec =
