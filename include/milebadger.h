@@ -186,9 +186,9 @@ int64_t milebadger_open(milebadger_sheet *sheet, const uint32_t *words, size_t w
  * Returns  how many equations are then held, 1 to 16; or -4, -1, -5, -6. */
 int64_t milebadger_add(milebadger_sheet *sheet, const uint32_t *words, size_t words_len);
 
-/* Adds an equation that is typed as text, such as 3*(x1 - 2*x2) + x3 = 5 - x1, behind those that are held. Brought to the
- * left, the unknowns' coefficients, and to the right, the plain numbers, all mod m, make the equation: mod 12 with three
- * unknowns this is 4·x1 + 6·x2 + x3 = 5. The text is text_len bytes of ASCII; no byte 0 ends it.
+/* Adds an equation that is typed as text, such as 3*(x1 - 2*x2) + x3 = 5 - x1, behind those that are held. The unknowns'
+ * coefficients, brought to the left, and the plain numbers, brought to the right, all mod m, make the equation: mod 12 with
+ * three unknowns this is 4·x1 + 6·x2 + x3 = 5. The text is text_len bytes of ASCII; no byte 0 ends it.
  *
  *     text          expression = expression
  *     expression    term, or expression + term, or expression - term
