@@ -1,23 +1,24 @@
 -- The carried columns of the constant's row d ∷ ks: multiplied by ks, the equations add up to d in the constant's
 -- column. Proof: take the point with the vector x, the constant's entry y, and behind them minus the value of each
 -- equation there. Every line is 0 at it, so the row is.
---   dot-unit                    the carried columns pick one entry
+--   dot-carried                 the carried columns pick one entry
 --   valueAt, carried-value      Σ ks·(value at x, y) ≡ d·y for every x and y
 --   sum-zero                    sums of pairs that cancel
 use mathlib.Core.Path.{_≡_, refl, sym, ap, _∙_}
 use mathlib.Core.List.{List, [], _∷_, reverseAux, map}
-use Prim.Native.Nat.{ℕ, zero, suc, _+_, _*_, _%_, _<_}
+use Prim.Native.Nat.{ℕ, suc, _+_, _*_, _%_, _<_}
 use native.Mathlib.Numerals.{add-one}
 use native.Mathlib.Omega.{arith}
-use lib.ListN.{length, drop, length-reverseAux}
-use lib.Seq.{drop-drop}
+use lib.ListN.{length, drop, getD, length-reverseAux}
+use lib.Seq.{drop-drop, getD-drop}
 use Rattle.residue.specs.Congruent.{Congruent}
 use Rattle.residue.specs.Negative.{negative}
 use Rattle.residue.proofs.Congruent.{congruent-of-eq, congruent-refl, congruent-sym, congruent-trans, congruent-add, congruent-mul, congruent-cancel}
 use Rattle.residue.proofs.Negative.{negative-is}
+use Rattle.equations.specs.Vectors.{unit}
 use Rattle.equations.specs.Equation.{Equation, dot, Shaped}
-use Rattle.equations.proofs.Dot.{dot-zeros}
-use Rattle.elimination.specs.Tableau.{unit, lines, tableau}
+use Rattle.equations.proofs.Unit.{dot-unit}
+use Rattle.elimination.specs.Tableau.{lines, tableau}
 use Rattle.elimination.proofs.Zeros.{Sat, sat-drop}
 use Rattle.elimination.proofs.Basis.{Zeros, sat-basis}
 use Rattle.elimination.proofs.Turned.{dot-reverse, drop-reverse}
@@ -26,12 +27,12 @@ use Rattle.elimination.proofs.Lines.{long-lines}
 drop-next : (i : ℕ) (Y Z : List ℕ) (y : ℕ) → drop i Y ≡ y ∷ Z → drop (suc i) Y ≡ Z
 drop-next i Y Z y h = ap (λ (k : ℕ). drop k Y) (sym (add-one i)) ∙ sym (drop-drop 1 i Y) ∙ ap (drop 1) h
 
-pub dot-unit : (k i : ℕ) (Y Z : List ℕ) (y : ℕ) → i < k → drop i Y ≡ y ∷ Z → dot (unit k i) Y ≡ y
-dot-unit zero i Y Z y h e = absurd (omega arith)
-dot-unit (suc k) zero [] Z y h e = absurd (let z : _≡_ {A = ℕ} 0 1 = cc in omega arith)
-dot-unit (suc k) zero (a ∷ Y) Z y h e = let f : a ≡ y = cc in omega (arith, dot-zeros k Y)
-dot-unit (suc k) (suc i) [] Z y h e = absurd (let z : _≡_ {A = ℕ} 0 1 = cc in omega arith)
-dot-unit (suc k) (suc i) (a ∷ Y) Z y h e = omega (arith, dot-unit k i Y Z y (omega arith) e)
+pub dot-carried : (k i : ℕ) (Y Z : List ℕ) (y : ℕ) → i < k → drop i Y ≡ y ∷ Z → dot (unit k i) Y ≡ y
+dot-carried k i Y Z y h e =
+    dot-unit k i Y h ∙ sym (getD-drop i Y 0 0 ∙ ap (λ (j : ℕ). getD Y j 0) (none i)) ∙ ap (λ (l : List ℕ). getD l 0 0) e
+  where
+    none : (i : ℕ) → i + 0 ≡ i
+    none i = omega arith
 
 -- ---- all lines are 0 at the point
 
@@ -50,7 +51,7 @@ module _ (m n k : ℕ) (pos : 0 < m) (x : List ℕ) (y : ℕ) (lx : length x ≡
     congruent-trans
         (congruent-of-eq
         (dot-reverse (q .coefficients) x (negative m (q .right) % m ∷ unit k i) (y ∷ C) (shaped .0 ∙ sym lx)
-        ∙ omega (arith, dot-unit k i C (map (minusAt m x y) es) (minusAt m x y q) (omega arith) e)))
+        ∙ omega (arith, dot-carried k i C (map (minusAt m x y) es) (minusAt m x y q) (omega arith) e)))
         (negative-is m (valueAt m x y q) pos),
     zeros-at (suc i) es (shaped .1) (omega arith) (drop-next i C _ _ e),
   )

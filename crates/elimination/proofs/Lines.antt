@@ -1,33 +1,30 @@
 -- The lines of a list of equations: one is 0 at the point of a vector x, with c behind it, exactly where x solves the
 -- equation with its right side c times as large; c is 1, or 0 for right sides put to 0.
---   length-unit, long-lines                         the form of the lines
+--   long-lines                                      the form of the lines
 --   Holds                                           the congruences that the equations ask
 --   zeros-of-holds, holds-of-zeros                  they hold exactly where the lines are 0
 --   holds-of-solves, solves-of-holds                and, for c = 1, where the test passes
 --   holds-of-homogeneous, homogeneous-of-holds      c = 0 is right sides put to 0
-use mathlib.Core.Path.{_≡_, refl, sym, ap, _∙_}
+use mathlib.Core.Path.{_≡_, sym, _∙_}
 use mathlib.Core.List.{List, [], _∷_, reverseAux}
-use Prim.Native.Nat.{ℕ, zero, suc, _+_, _*_, _%_, _<_}
+use Prim.Native.Nat.{ℕ, suc, _+_, _*_, _%_, _<_}
 use native.Mathlib.Omega.{arith}
-use lib.ListN.{length, length-replicate, length-reverseAux}
+use lib.ListN.{length, length-reverseAux}
 use lib.Dec.{T}
 use Rattle.residue.specs.Congruent.{Congruent}
 use Rattle.residue.specs.Negative.{negative}
 use Rattle.residue.proofs.Congruent.{congruent-of-eq, congruent-refl, congruent-sym, congruent-trans, congruent-add, congruent-cancel, congruent-absorb}
 use Rattle.residue.proofs.Negative.{negative-reduced}
+use Rattle.equations.specs.Vectors.{unit}
 use Rattle.equations.specs.Equation.{Equation, dot, solves, homogeneous, Shaped}
 use Rattle.equations.proofs.Dot.{dot-nil}
 use Rattle.equations.proofs.Solving.{solves-cons, cons-solves}
-use Rattle.elimination.specs.Tableau.{unit, line, lines}
+use Rattle.equations.proofs.Unit.{length-unit}
+use Rattle.elimination.specs.Tableau.{line, lines}
 use Rattle.elimination.proofs.Basis.{Long, Zeros}
 use Rattle.elimination.proofs.Turned.{dot-reverse}
 
 -- ---- the form of the lines
-
-pub length-unit : (k i : ℕ) → length (unit k i) ≡ k
-length-unit zero i = refl
-length-unit (suc k) zero = ap suc (length-replicate k 0)
-length-unit (suc k) (suc i) = ap suc (length-unit k i)
 
 pub long-lines : (m n k i : ℕ) (es : List Equation) → Shaped n es → Long (n + 1 + k) (lines m k i es)
 long-lines m n k i [] shaped = tt

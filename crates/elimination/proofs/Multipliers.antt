@@ -16,25 +16,26 @@ use Rattle.residue.specs.Negative.{negative}
 use Rattle.residue.proofs.Congruent.{congruent-of-eq, congruent-sym, congruent-trans, congruent-add, congruent-small}
 use Rattle.residue.proofs.Divides.{factor-positive, factor-or-below}
 use Rattle.residue.proofs.Negative.{negative-reduced}
+use Rattle.equations.specs.Vectors.{unit}
 use Rattle.equations.specs.Equation.{Equation, dot, Shaped}
 use Rattle.equations.specs.Answer.{startOf}
 use Rattle.equations.specs.Multipliers.{column, rights, refutes}
 use Rattle.equations.proofs.Dot.{dot-comm, dot-zeros-right}
 use Rattle.equations.proofs.Multipliers.{refutes-is}
-use Rattle.elimination.specs.Tableau.{unit, tableau}
+use Rattle.equations.proofs.Unit.{length-unit}
+use Rattle.elimination.specs.Tableau.{tableau}
 use Rattle.elimination.specs.Multipliers.{multipliersOf}
 use Rattle.elimination.specs.Multipliers.Row.{multipliers-row}
-use Rattle.elimination.proofs.Lines.{length-unit}
 use Rattle.elimination.proofs.Row.{RowAt, tail-at}
 use Rattle.elimination.proofs.Tableau.{tableau-below}
 use Rattle.elimination.proofs.Answer.{row-of, last-row, answer-start}
-use Rattle.elimination.proofs.Carried.{dot-unit, valueAt, sum-zero, carried-value}
+use Rattle.elimination.proofs.Carried.{dot-carried, valueAt, sum-zero, carried-value}
 
 -- ---- sums over the equations
 
 dot-unit-right : (a : List ℕ) (n c : ℕ) → length a ≡ n → c < n → dot a (unit n c) ≡ getD a c 0
 dot-unit-right a n c h l =
-    dot-comm a (unit n c) ∙ dot-unit n c a (drop (suc c) a) (getD a c 0) l (drop-cons a c 0 (omega arith))
+    dot-comm a (unit n c) ∙ dot-carried n c a (drop (suc c) a) (getD a c 0) l (drop-cons a c 0 (omega arith))
 
 same-sum : (n : ℕ) (f g : Equation → ℕ) (ks : List ℕ) (es : List Equation) → Shaped n es
     → ((e : Equation) → length (e .coefficients) ≡ n → f e ≡ g e) → dot ks (map f es) ≡ dot ks (map g es)

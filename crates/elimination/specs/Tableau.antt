@@ -6,15 +6,10 @@ use mathlib.Core.List.{List, [], _∷_, reverseAux}
 use Prim.Native.Nat.{ℕ, zero, suc, _+_, _%_}
 use lib.ListN.{replicate}
 use Rattle.residue.specs.Negative.{negative}
+use Rattle.equations.specs.Vectors.{unit}
 use Rattle.equations.specs.Equation.{Equation}
 use Rattle.elimination.specs.Basis.{basis}
 use Rattle.elimination.specs.Substitution.{extend}
-
--- k entries, a 1 at i and 0 elsewhere
-abbrev pub unit : ℕ → ℕ → List ℕ
-unit zero i = []
-unit (suc k) zero = 1 ∷ replicate k 0
-unit (suc k) (suc i) = 0 ∷ unit k i
 
 abbrev pub line : ℕ → Equation → List ℕ → List ℕ
 line m e carried = reverseAux (e .coefficients) (negative m (e .right) % m ∷ carried)

@@ -1,6 +1,7 @@
 -- Laws about the definitions in specs/, for every crate above.
 pub mod Truth
 pub mod Dot
+pub mod Unit
 pub mod Vectors
 pub mod Lines
 pub mod First

@@ -3,9 +3,9 @@
 --   length-coefficients   there are n of them
 --   dot-two               a combination of the coefficients of two trees
 --   value-linear          the law of the title
-use mathlib.Core.Path.{_≡_, refl, ap, sym, _∙_}
+use mathlib.Core.Path.{_≡_, refl, sym, _∙_}
 use mathlib.Core.Bool.{true, false, not, _&&_}
-use mathlib.Core.List.{List, [], _∷_}
+use mathlib.Core.List.{List}
 use Prim.Native.Nat.{ℕ, zero, suc, _+_, _-_, _*_, _%_, _<_}
 use native.Mathlib.Omega.{arith}
 use borrow.Author.Tests.{ltb-true}
@@ -17,9 +17,10 @@ use Rattle.residue.proofs.Whole.{Leaves, leaves-on, leaves-number, leaves-negat
 use Rattle.equations.specs.Vectors.{combine}
 use Rattle.equations.specs.Equation.{dot}
 use Rattle.equations.proofs.Dot.{dot-zeros, length-combine, dot-combine}
+use Rattle.equations.proofs.Unit.{length-unit, dot-unit}
 use Rattle.grammar.specs.Tree.{Tree, number, unknown, minus, sum, difference, product}
 use Rattle.grammar.specs.Meaning.{value}
-use Rattle.grammar.specs.Linear.{hasUnknown, within, linear, unit, minusOne, constant, coefficients}
+use Rattle.grammar.specs.Linear.{hasUnknown, within, linear, minusOne, constant, coefficients}
 use Rattle.grammar.proofs.Tests.{both-left, both-right, or-left, or-right, not-both}
 
 -- ---- minus one
@@ -33,18 +34,6 @@ opposite : (m x : ℕ) → 0 < m → Congruent m (minusOne m * x + x) 0
 opposite m x pos = congruent-of 0 x (omega (arith, minus-one m x pos))
 
 -- ---- coefficients
-
-length-unit : (n j : ℕ) → length (unit n j) ≡ n
-length-unit zero j = refl
-length-unit (suc n) zero = ap suc (length-replicate n 0)
-length-unit (suc n) (suc j) = ap suc (length-unit n j)
-
-dot-unit : (n j : ℕ) (v : List ℕ) → j < n → dot (unit n j) v ≡ getD v j 0
-dot-unit zero j v h = absurd (omega arith)
-dot-unit (suc n) zero [] h = refl
-dot-unit (suc n) zero (x ∷ v) h = omega (arith, dot-zeros n v)
-dot-unit (suc n) (suc j) [] h = refl
-dot-unit (suc n) (suc j) (x ∷ v) h = omega (arith, dot-unit n j v (omega arith))
 
 module _ (m n : ℕ) where
   pub length-coefficients : (t : Tree) → length (coefficients m n t) ≡ n

@@ -1,10 +1,10 @@
 -- Which typed equations are linear, and the equation that is made of one. Definitions only.
 use mathlib.Core.Bool.{Bool, true, false, not, _&&_, _||_}
-use mathlib.Core.List.{List, [], _∷_}
-use Prim.Native.Nat.{ℕ, zero, suc, _+_, _-_, _*_, _%_}
+use mathlib.Core.List.{List}
+use Prim.Native.Nat.{ℕ, _+_, _-_, _*_, _%_}
 use lib.ListN.{replicate}
 use lib.Dec.{ltb}
-use Rattle.equations.specs.Vectors.{combine}
+use Rattle.equations.specs.Vectors.{unit, combine}
 use Rattle.equations.specs.Equation.{Equation}
 use Rattle.grammar.specs.Tree.{Tree, number, unknown, minus, sum, difference, product, Sides}
 
@@ -44,12 +44,6 @@ abbrev pub sidesLinear : Sides → Bool
 sidesLinear e = linear (e .left) && linear (e .right)
 
 -- ---- the equation that is made of it
-
--- n coefficients, 1 at place j and 0 elsewhere
-abbrev pub unit : ℕ → ℕ → List ℕ
-unit zero j = []
-unit (suc n) zero = 1 ∷ replicate n 0
-unit (suc n) (suc j) = 0 ∷ unit n j
 
 -- m - 1 stands for -1
 abbrev pub minusOne : ℕ → ℕ

@@ -21,8 +21,8 @@ use Rattle.slices.proofs.Over.{over-front}
 use Rattle.slices.specs.Over.{over}
 use Rattle.residue.specs.Negative.{negative}
 use Rattle.equations.specs.Equation.{Equation}
-use Rattle.equations.specs.Vectors.{Below}
-use Rattle.elimination.specs.Tableau.{line, lines, unit, turned}
+use Rattle.equations.specs.Vectors.{Below, unit}
+use Rattle.elimination.specs.Tableau.{line, lines, turned}
 use Rattle.elimination.proofs.Turned.{below-turned}
 use Rattle.equations.specs.Lines.{equationAt, equationsWithin, equationsOf}
 use Rattle.equations.proofs.Vectors.{below-zeros, below-drop, below-take}

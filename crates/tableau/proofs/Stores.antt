@@ -1,8 +1,7 @@
 -- Loops and stores that fill a list.
 --   turned-suc            one entry more, turned round
 --   turn-start, turn-next, turn-end   a list filled from its end, an entry in each turn
---   unit-store            zeros with a 1 stored are a unit vector
---   unit-past             which has no 1 where its place is behind the end
+--   unit-past             a unit vector has no 1 where its place is behind the end
 use mathlib.Core.Path.{_≡_, refl, sym, ap, ap₂, _∙_}
 use mathlib.Core.List.{List, [], _∷_, _++_, append-nil}
 use Prim.Native.Nat.{ℕ, zero, suc, _+_, _-_, _<_, _≤_}
@@ -10,7 +9,8 @@ use native.Mathlib.Numerals.{add-one}
 use native.Mathlib.Omega.{arith}
 use lib.ListN.{length, take, getD, set, replicate}
 use lib.Seq.{take-length}
-use Rattle.elimination.specs.Tableau.{turned, unit}
+use Rattle.equations.specs.Vectors.{unit}
+use Rattle.elimination.specs.Tableau.{turned}
 
 pub turned-suc : (i : ℕ) (x acc : List ℕ) → i < length x → turned (suc i) x acc ≡ getD x i 0 ∷ turned i x acc
 turned-suc i [] acc h = absurd (omega arith)
@@ -42,11 +42,6 @@ pub turn-end : (n i : ℕ) (x d out : List ℕ) → i ≡ n → out ≡ take (n 
 turn-end n i x d out h f =
     let z : n - i ≡ 0 = omega arith in
     f ∙ ap₂ (λ (k j : ℕ). take k d ++ turned j x []) z h
-
-pub unit-store : (n i : ℕ) → i < n → set (replicate n 0) i 1 ≡ unit n i
-unit-store zero i h = absurd (omega arith)
-unit-store (suc n) zero h = refl
-unit-store (suc n) (suc i) h = ap {B = List ℕ} (λ z. 0 ∷ z) (unit-store n i (omega arith))
 
 pub unit-past : (n i : ℕ) → n ≤ i → replicate n 0 ≡ unit n i
 unit-past zero i h = refl

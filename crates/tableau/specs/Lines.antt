@@ -5,8 +5,9 @@ use mathlib.Core.Bool.{Bool, true, false}
 use mathlib.Core.List.{List, [], _∷_}
 use Prim.Native.Nat.{ℕ, zero, suc, _+_, _/_, _<_}
 use lib.ListN.{length, take, drop}
+use Rattle.equations.specs.Vectors.{unit}
 use Rattle.equations.specs.Lines.{equationAt}
-use Rattle.elimination.specs.Tableau.{line, unit}
+use Rattle.elimination.specs.Tableau.{line}
 
 -- what is asked: a plain line carries nothing, and the 1 that an equation carries is a residue
 abbrev pub Loadable : Bool → ℕ → ℕ → Type 0

@@ -3,7 +3,8 @@ ghost use mathlib.Core.Path.{_≡_};
 ghost use mathlib.Core.List.{[]};
 ghost use Prim.Native.Nat.{_≤_};
 ghost use lib.ListN.{length};
-ghost use Rattle.elimination.specs.Tableau.{turned, unit};
+ghost use Rattle.equations.specs.Vectors.{unit};
+ghost use Rattle.elimination.specs.Tableau.{turned};
 use slices::filling::zeros;
 
 // A 1 at place i, which may lie behind the end: then there is none.

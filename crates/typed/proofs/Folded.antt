@@ -13,12 +13,12 @@ use borrow.Author.Tests.{lt-ltb, le-leb}
 use lib.Dec.{ltb, leb, leb→le, le→leb}
 use lib.ListN.{length, take, replicate}
 use mir.Facts.{and-yes, yes-and}
-use Rattle.equations.specs.Vectors.{combine}
+use Rattle.equations.specs.Vectors.{unit, combine}
 use Rattle.equations.proofs.Truth.{same-of-both}
 use Rattle.grammar.specs.Tree.{Tree, Sides, number, unknown, minus, sum, difference, product}
 use Rattle.grammar.specs.Model.Algebra.{fold}
 use Rattle.grammar.specs.Grammar.{Typed, largestUnknown}
-use Rattle.grammar.specs.Linear.{unit, minusOne, hasUnknown, within, linear, constant, coefficients, equationOf}
+use Rattle.grammar.specs.Linear.{minusOne, hasUnknown, within, linear, constant, coefficients, equationOf}
 use Rattle.grammar.specs.Model.Reader.{found, sidesOf}
 use Rattle.grammar.proofs.Meaning.{length-coefficients}
 use Rattle.typed.specs.Model.Forms.{largest, zeroForm, addedForm, productForm, forms, formOf, formsEquation}

@@ -5,7 +5,6 @@
 --   skip-on, skip-end             a space is passed, anything else is not
 --   digit-on, digit-end           a digit is taken, anything else is not
 --   entry-combine                 an entry of a combination
---   set-unit                      the unit vector, by one store
 use mathlib.Core.Path.{_≡_, refl, ap, sym, _∙_}
 use mathlib.Core.Bool.{true, false, false≢true}
 use mathlib.Core.List.{List, [], _∷_}
@@ -13,10 +12,9 @@ use Prim.Native.Nat.{ℕ, zero, suc, _+_, _-_, _*_, _%_, _≤_, _<_}
 use native.Mathlib.Numerals.{add-one}
 use native.Mathlib.Omega.{arith}
 use borrow.Author.Tests.{eq-eqb, ne-eqb}
-use lib.ListN.{length, drop, getD, set, replicate, drop-of-length-le}
+use lib.ListN.{length, drop, getD, drop-of-length-le}
 use lib.Seq.{drop-cons}
 use Rattle.equations.specs.Vectors.{combine}
-use Rattle.grammar.specs.Linear.{unit}
 use Rattle.grammar.specs.Model.Reader.{next, tail, skip, isDigit, digits, behind, isSign}
 
 -- ---- the byte at a place
@@ -79,8 +77,3 @@ entry-combine m s t [] b j e h = absurd (omega arith)
 entry-combine m s t (x ∷ a) [] j e h = absurd (omega arith)
 entry-combine m s t (x ∷ a) (y ∷ b) zero e h = refl
 entry-combine m s t (x ∷ a) (y ∷ b) (suc j) e h = entry-combine m s t a b j (omega arith) (omega arith)
-
-pub set-unit : (w j : ℕ) → set (replicate w 0) j 1 ≡ unit w j
-set-unit zero j = refl
-set-unit (suc w) zero = refl
-set-unit (suc w) (suc j) = ap (λ (z : List ℕ). 0 ∷ z) (set-unit w j)

@@ -4,12 +4,12 @@ use mathlib.Core.Bool.{true, not, _&&_}
 use Prim.Native.Nat.{ℕ, suc, _+_, _*_, _%_, max}
 use lib.ListN.{take, replicate}
 use lib.Dec.{ltb}
-use Rattle.equations.specs.Vectors.{combine}
+use Rattle.equations.specs.Vectors.{unit, combine}
 use Rattle.equations.specs.Equation.{Equation}
 use Rattle.typed.specs.declared.forms.Form.{Form}
 use Rattle.grammar.specs.Tree.{Tree, number, unknown, minus, sum, difference, product}
 use Rattle.grammar.specs.Model.Algebra.{Algebra}
-use Rattle.grammar.specs.Linear.{unit, minusOne, linear, constant, coefficients}
+use Rattle.grammar.specs.Linear.{minusOne, linear, constant, coefficients}
 
 -- the number of the last of its unknowns, 0 where it has none
 abbrev pub largest : Tree → ℕ

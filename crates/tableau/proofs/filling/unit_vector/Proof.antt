@@ -5,7 +5,8 @@ use Prim.Native.Nat.{ℕ}
 use native.Mathlib.Omega.{arith}
 use lib.ListN.{length, set}
 use borrow.Author.Needs.{needs}
-use Rattle.tableau.proofs.Stores.{unit-store, unit-past}
+use Rattle.equations.proofs.Unit.{unit-store}
+use Rattle.tableau.proofs.Stores.{unit-past}
 use Rattle.tableau.proofs.filling.unit_vector.Statement.{statement}
 use Rattle.tableau.proofs.filling.unit_vector.Tie as tie
 
@@ -25,7 +26,7 @@ returns : tie.Need-returns
 returns c =
     let a = c .before .before .before .before .before .before .args in
     ap (λ (z : List ℕ). set z (a .i) 1) (c .before .before .before .zeros .ensures)
-    ∙ unit-store (length (a .out .now)) (a .i) (omega arith)
+    ∙ unit-store (length (a .out .now)) (a .i)
 
 same-length-2 : tie.Need-same-length-2
 same-length-2 c = search needs

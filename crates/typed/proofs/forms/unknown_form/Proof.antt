@@ -1,7 +1,7 @@
 -- `unknown_form` meets its contract: one store makes the unit vector.
 use mathlib.Core.Bool.{true}
 use native.Mathlib.Numerals.{add-one}
-use Rattle.typed.proofs.Places.{set-unit}
+use Rattle.equations.proofs.Unit.{unit-store}
 use borrow.Author.Needs.{needs}
 use Rattle.typed.proofs.forms.unknown_form.Statement.{statement}
 use Rattle.typed.proofs.forms.unknown_form.Tie as tie
@@ -20,7 +20,7 @@ add-t8 c = search needs
 
 returns : tie.Need-returns
 returns c = λ i. record {
-  coefficients = set-unit 16 (c .args .j) i;
+  coefficients = unit-store 16 (c .args .j) i;
   constant = 0;
   largest = add-one
       (c .args .j) i;
