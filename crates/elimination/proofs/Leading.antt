@@ -1,17 +1,17 @@
 -- Vectors whose first non-zero entry is at j, and their points: behind the i entries
 -- after it stand that entry and zeros.
 --   sat-zeros                  a basis is 0 at zeros
---   take-zeros, drop-zeros     parts of zeros
+--   drop-zeros                 the last of zeros
 --   Leading, leading-point     what the point of such a vector is
 --   leads-turned               and back
 --   colex-drop                 points that differ behind the first i columns
-use mathlib.Core.Path.{_≡_, refl, ap}
+use mathlib.Core.Path.{_≡_, refl}
 use mathlib.Core.Logic.{inl}
 use mathlib.Core.List.{List, [], _∷_, reverseAux}
 use Prim.Native.Nat.{ℕ, zero, suc, _+_, _≤_, _<_}
 use native.Mathlib.Nat.{zero-lt-suc}
 use native.Mathlib.Omega.{arith}
-use lib.ListN.{length, take, drop, replicate}
+use lib.ListN.{length, drop, replicate}
 use lib.Dec.{T, eqb, eqb→eq, eqb·suc-zero}
 use mir.Facts.{and-yes}
 use Rattle.residue.proofs.Congruent.{congruent-of-eq}
@@ -33,11 +33,6 @@ sat-zeros m (r ∷ B) (suc j) h = (congruent-of-eq (dot-zeros-right r (suc j)), 
 pub drop-zeros : (j : ℕ) → drop {A = ℕ} j (replicate (suc j) 0) ≡ 0 ∷ []
 drop-zeros zero = refl
 drop-zeros (suc j) = drop-zeros j
-
-pub take-zeros : (j c : ℕ) → j ≤ c → take j (replicate {A = ℕ} c 0) ≡ replicate j 0
-take-zeros zero c h = refl
-take-zeros (suc j) zero h = absurd (omega arith)
-take-zeros (suc j) (suc c) h = ap {B = List ℕ} (λ z. 0 ∷ z) (take-zeros j c (omega arith))
 
 -- ---- the leading entry
 

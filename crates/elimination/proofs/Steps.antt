@@ -24,6 +24,7 @@ use Rattle.equations.proofs.Truth.{false-of}
 use Rattle.equations.proofs.Dot.{dot-zeros-right}
 use Rattle.equations.proofs.Vectors.{vector-length, vector-below, below-zeros}
 use Rattle.equations.proofs.First.{first-none}
+use Rattle.equations.proofs.Unit.{take-zeros}
 use Rattle.elimination.specs.Substitution.{extend}
 use Rattle.elimination.specs.Tableau.{turned, tableau, tableauStep}
 use Rattle.elimination.proofs.Zeros.{Sat, sat-drop}
@@ -31,7 +32,7 @@ use Rattle.elimination.proofs.Closure.{Closure}
 use Rattle.elimination.proofs.Substitution.{Colex, length-extend, drop-extend, sat-extend, extend-least}
 use Rattle.elimination.proofs.Turned.{extend-point, extend-vector, length-turned, first-colex}
 use Rattle.elimination.proofs.Tableau.{length-tableau, good-tableau, sat-homogeneous, homogeneous-solves}
-use Rattle.elimination.proofs.Leading.{sat-zeros, take-zeros, drop-zeros, Leading, leading-point, leads-turned, colex-drop}
+use Rattle.elimination.proofs.Leading.{sat-zeros, drop-zeros, Leading, leading-point, leads-turned, colex-drop}
 
 module _ (m n k : ℕ) (es : List Equation) (pos : 0 < m) (shaped : Shaped n es) (i j : ℕ) (places : i + suc j ≡ n)
     (d e : ℕ) (r : List ℕ) (rest : List (List ℕ)) (here : drop i (tableau m n k es) ≡ (d ∷ r) ∷ rest)

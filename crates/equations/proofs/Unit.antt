@@ -1,15 +1,21 @@
--- Unit vectors.
+-- Zeros and unit vectors.
+--   take-zeros    the first of zeros
 --   length-unit   n entries
 --   dot-unit      they pick an entry
 --   unit-store    zeros with a 1 stored
 use mathlib.Core.Path.{_≡_, refl, ap}
 use mathlib.Core.List.{List, [], _∷_}
-use Prim.Native.Nat.{ℕ, zero, suc, _<_}
+use Prim.Native.Nat.{ℕ, zero, suc, _<_, _≤_}
 use native.Mathlib.Omega.{arith}
-use lib.ListN.{length, getD, set, replicate, length-replicate}
+use lib.ListN.{length, take, getD, set, replicate, length-replicate}
 use Rattle.equations.specs.Vectors.{unit}
 use Rattle.equations.specs.Equation.{dot}
 use Rattle.equations.proofs.Dot.{dot-zeros}
+
+pub take-zeros : (j c : ℕ) → j ≤ c → take j (replicate {A = ℕ} c 0) ≡ replicate j 0
+take-zeros zero c h = refl
+take-zeros (suc j) zero h = absurd (omega arith)
+take-zeros (suc j) (suc c) h = ap {B = List ℕ} (λ z. 0 ∷ z) (take-zeros j c (omega arith))
 
 pub length-unit : (n j : ℕ) → length (unit n j) ≡ n
 length-unit zero j = refl

@@ -5,8 +5,8 @@
 use mathlib.Core.Path.{_≡_, sym, _∙_}
 use mathlib.Core.Logic.{_↔_}
 use mathlib.Core.Bool.{true}
-use mathlib.Core.List.{List, [], _∷_}
-use Prim.Native.Nat.{ℕ, zero, suc, _+_, _*_, _<_}
+use mathlib.Core.List.{List}
+use Prim.Native.Nat.{ℕ, _+_, _*_, _<_}
 use native.Mathlib.Omega.{arith}
 use native.Mathlib.Nat.{mod-lt}
 use borrow.Author.Tests.{eqb-true, eq-eqb}
@@ -15,9 +15,10 @@ use lib.ListN.{length}
 use Rattle.residue.specs.Congruent.{Congruent}
 use Rattle.residue.proofs.Congruent.{congruent-of, congruent-witness, congruent-sym, congruent-trans, congruent-mod}
 use Rattle.residue.proofs.Whole.{whole-congruent}
-use Rattle.equations.specs.Vectors.{combine, Vector}
+use Rattle.equations.specs.Vectors.{Vector}
 use Rattle.equations.specs.Equation.{dot, solvesOne}
 use Rattle.equations.proofs.Dot.{length-combine}
+use Rattle.equations.proofs.Vectors.{vector-of, below-combine}
 use Rattle.equations.proofs.Truth.{true-of, of-true}
 use Rattle.grammar.specs.Tree.{Sides}
 use Rattle.grammar.specs.Meaning.{value, HoldsMod}
@@ -84,14 +85,6 @@ module _ (m n : ℕ) (e : Sides) (pos : 0 < m) (among : sidesWithin n e ≡ true
 
 -- ---- its shape
 
-combine-residues : (m n s t : ℕ) (v w : List ℕ) → 0 < m → length v ≡ n → length w ≡ n → Vector m n (combine m s t v w)
-combine-residues m zero s t [] w pos h k = tt
-combine-residues m zero s t (x ∷ v) w pos h k = absurd (omega arith)
-combine-residues m (suc n) s t [] w pos h k = absurd (omega arith)
-combine-residues m (suc n) s t (x ∷ v) [] pos h k = absurd (omega arith)
-combine-residues m (suc n) s t (x ∷ v) (y ∷ w) pos h k =
-    (mod-lt (s * x + t * y) pos, combine-residues m n s t v w pos (omega arith) (omega arith))
-
 pub made-length : (m n : ℕ) (e : Sides) → length (equationOf m n e .coefficients) ≡ n
 unfolding equationOf
 made-length m n e =
@@ -103,7 +96,6 @@ pub equation-shaped : (m n : ℕ) (e : Sides) → 0 < m
     → Vector m n (equationOf m n e .coefficients) × (equationOf m n e .right < m)
 unfolding equationOf
 equation-shaped m n e pos = (
-  combine-residues m n 1 (minusOne m) (coefficients m n (e .left)) (coefficients m n (e .right)) pos
-      (length-coefficients m n (e .left)) (length-coefficients m n (e .right)),
+  vector-of m n _ (made-length m n e) (below-combine m 1 (minusOne m) (coefficients m n (e .left)) (coefficients m n (e .right)) pos),
   mod-lt (constant m (e .right) + minusOne m * constant m (e .left)) pos,
 )

@@ -15,8 +15,8 @@ use native.Mathlib.Nat.{add-zero}
 use native.Mathlib.Omega.{arith}
 use lib.ListN.{length, take, drop, replicate}
 use lib.Seq.{take-at, length-take-le}
+use Rattle.equations.proofs.Unit.{take-zeros}
 use Rattle.slices.proofs.Parts.{joined-fit, relent-length}
-use Rattle.elimination.proofs.Leading.{take-zeros}
 use Rattle.tableau.specs.Packed.{rows, triangle}
 use Rattle.tableau.proofs.Packed.{triangle-mono}
 

@@ -11,9 +11,9 @@ use native.Mathlib.Omega.{arith}
 use lib.ListN.{length, take, drop, set, replicate, length-set}
 use lib.Seq.{length-take-le, take-append-add, drop-set-lt}
 use Rattle.equations.specs.Vectors.{Below}
+use Rattle.equations.proofs.Unit.{take-zeros}
 use Rattle.elimination.specs.Substitution.{extend}
 use Rattle.elimination.specs.Tableau.{turned}
-use Rattle.elimination.proofs.Leading.{take-zeros}
 use Rattle.tableau.specs.Packed.{rows, Kept}
 use Rattle.system.specs.Model.Reading.{readVector}
 use Rattle.system.proofs.Rows.{extend-rows, extend-zeros}

@@ -17,8 +17,8 @@ use Rattle.residue.specs.Negative.{negative}
 use Rattle.equations.specs.Equation.{dot}
 use Rattle.equations.proofs.Vectors.{below-take}
 use Rattle.equations.proofs.Dot.{dot-zeros}
+use Rattle.equations.proofs.Unit.{take-zeros}
 use Rattle.elimination.specs.Substitution.{place, fit, extend}
-use Rattle.elimination.proofs.Leading.{take-zeros}
 use Rattle.tableau.specs.Packed.{RowKept}
 use Rattle.slices.proofs.Parts.{lent, lent-is}
 use Rattle.tableau.proofs.Sums.{dot-short}

@@ -15,6 +15,7 @@ use lib.ListN.{length, take, replicate}
 use mir.Facts.{and-yes, yes-and}
 use Rattle.equations.specs.Vectors.{unit, combine}
 use Rattle.equations.proofs.Truth.{same-of-both}
+use Rattle.equations.proofs.Unit.{take-zeros}
 use Rattle.grammar.specs.Tree.{Tree, Sides, number, unknown, minus, sum, difference, product}
 use Rattle.grammar.specs.Model.Algebra.{fold}
 use Rattle.grammar.specs.Grammar.{Typed, largestUnknown}
@@ -119,11 +120,6 @@ take-combine m s t zero v w = refl
 take-combine m s t (suc n) [] w = refl
 take-combine m s t (suc n) (x ∷ v) [] = refl
 take-combine m s t (suc n) (x ∷ v) (y ∷ w) = ap (λ (z : List ℕ). ((s * x + t * y) % m) ∷ z) (take-combine m s t n v w)
-
-take-zeros : (n w : ℕ) → n ≤ w → take {A = ℕ} n (replicate w 0) ≡ replicate n 0
-take-zeros zero w h = refl
-take-zeros (suc n) zero h = absurd (omega arith)
-take-zeros (suc n) (suc w) h = ap (λ (z : List ℕ). 0 ∷ z) (take-zeros n w (omega arith))
 
 take-unit : (n w j : ℕ) → n ≤ w → take n (unit w j) ≡ unit n j
 take-unit zero w j h = refl
