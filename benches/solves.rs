@@ -2,11 +2,11 @@
 //!     solves list             the names of the cases
 //!     solves time CASE        microseconds per solve: the median of 9 runs
 //!     solves run CASE COUNT   that many solves, for an instruction counter
+mod clock;
 #[path = "../tests/random.rs"]
 mod random;
 
 use random::Random;
-use std::time::Instant;
 
 extern "C" {
     fn milebadger_solve(m: u32, n: u32, lines: *const u32, lines_len: usize, out: *mut u32, out_len: usize) -> i64;
@@ -104,17 +104,6 @@ impl Solves {
         let lines = &self.systems[i % self.systems.len()];
         unsafe { milebadger_solve(self.m, self.n as u32, lines.as_ptr(), lines.len(), self.out.as_mut_ptr(), self.out.len()) }
     }
-
-    /// Microseconds for each of so many solves.
-    fn time(&mut self, count: usize) -> f64 {
-        let start = Instant::now();
-        let mut numbers = 0;
-        for i in 0..count {
-            numbers += self.solve(i);
-        }
-        assert!(numbers > 0);
-        start.elapsed().as_secs_f64() * 1e6 / count as f64
-    }
 }
 
 fn main() {
@@ -124,10 +113,7 @@ fn main() {
         ["list"] => cases().iter().for_each(|case| println!("{}", case.name)),
         ["time", name] => {
             let mut solves = Solves::new(&case(name));
-            let count = (20_000.0 / solves.time(64)) as usize + 64;
-            let mut runs: Vec<f64> = (0..9).map(|_| solves.time(count)).collect();
-            runs.sort_by(f64::total_cmp);
-            println!("{:.2}", runs[4]);
+            println!("{:.3}", clock::per_call(|i| solves.solve(i)));
         }
         ["run", name, count] => {
             let mut solves = Solves::new(&case(name));

@@ -81,9 +81,9 @@ column-given odd {m} {sum} {z} {a} {b} {u} {v} pos h small c =
         let e : u + a / b * v ≡ u = rw (div-eq-of-lt small) (omega arith) in
         rw (e, mod-eq-of-lt small) at (column-step odd pos (omega arith) c)
 
-pub column-fits : {odd : Bool} {m sum z x y u v : ℕ} → 0 < y → Column odd m sum z x y u v → u + x / y * v ≤ sum
-column-fits {x = x} {y = y} {u = u} {v = v} h c =
-    go y (x % y) (u + x / y * v) h (size-step x y u v _ (x / y) (x % y) (div-add-mod' x y) (c .size))
+pub column-fits : {odd : Bool} {m sum z x y u v q : ℕ} → 0 < y → q ≡ x / y → Column odd m sum z x y u v → u + q * v ≤ sum
+column-fits {x = x} {y = y} {u = u} {v = v} h quotient c =
+    rw quotient (go y (x % y) (u + x / y * v) h (size-step x y u v _ (x / y) (x % y) (div-add-mod' x y) (c .size)))
   where
     go : (y r w : ℕ) {sum : ℕ} → 0 < y → w * y + v * r ≡ sum → w ≤ sum
     go zero r w pos e = absurd (omega arith)

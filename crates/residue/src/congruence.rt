@@ -2,6 +2,7 @@
 ghost use mathlib.Core.Path.{_≡_};
 ghost use Prim.Native.Nat.{_<_};
 ghost use Rattle.residue.specs.Congruence.{solutionsOf};
+use super::division::divide;
 use super::extended::cofactors;
 use super::modular::mul;
 
@@ -17,11 +18,11 @@ pub fn solve(a: u32, b: u32, m: u32) -> Solutions
     ensures { λ r. ⌜ r ≡ solutionsOf a b m ⌝ }
 {
     let bezout = cofactors(m, a, m, 0, m);
-    let divisor = bezout.divisor;
-    if b % divisor != 0 {
+    let right = divide(b, bezout.divisor);
+    if right.remainder != 0 {
         return Solutions::NoSolution;
     }
     let spacing = bezout.p;
-    let least = mul(bezout.s, b / divisor, spacing);
+    let least = mul(bezout.s, right.quotient, spacing);
     Solutions::Spaced(least, spacing)
 }

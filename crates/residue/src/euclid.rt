@@ -3,13 +3,14 @@ ghost use mathlib.Core.Path.{_≡_};
 ghost use Prim.Native.Nat.{_+_, _*_, _≤_, min};
 ghost use Rattle.residue.specs.Chain.{chainOf};
 ghost use Rattle.residue.specs.Digits.{digits};
+use super::division::divide;
 
 pub struct Chain {
     pub divisor: u32,
     pub divisions: u32,
 }
 
-// The second promise is Lamé's: the chain is short.
+// The second promise is Lamé's: the chain is short. Each step makes one division, and goes on with what that leaves.
 pub fn gcd(a: u32, b: u32) -> Chain
     ensures { λ r. ⌜ r ≡ chainOf a b ⌝ }
     ensures { λ r. ⌜ r .divisions ≤ 5 * digits (min a b) + 1 ⌝ }
@@ -18,9 +19,9 @@ pub fn gcd(a: u32, b: u32) -> Chain
     let mut y = b;
     let mut count: u32 = 0;
     while y != 0 {
-        let rest = x % y;
+        let division = divide(x, y);
         x = y;
-        y = rest;
+        y = division.remainder;
         count += 1;
     }
     Chain {

@@ -4,7 +4,8 @@ ghost use mathlib.Core.Bool.{cond};
 ghost use Prim.Native.Nat.{_+_, _*_, _%_, _<_};
 ghost use Rattle.residue.specs.Cofactors.{bezoutOf};
 ghost use Rattle.residue.specs.Negative.{negative};
-use super::modular::negate;
+use super::division::divide;
+use super::modular::opposite;
 use super::modular::remainder;
 
 pub struct Bezout {
@@ -16,10 +17,10 @@ pub struct Bezout {
     pub p: u32,
 }
 
-// One pass over the chain, with no remainder by m before its end: without their signs the cofactors never exceed a and b, and
-// the signs alternate, so that one bit keeps them. The last division of most chains is one by 1, and is not made. b is given as
-// rest + quotient·a: whoever has divided b by a does not divide again, and whoever has not gives (0, b). Where the chain ends with
-// 0, the next cofactors would be the quotients of b and a by the divisor.
+// One pass over the chain, with one division in each step and no remainder by m before its end: without their signs the cofactors
+// never exceed a and b, and the signs alternate, so that one bit keeps them. The last division of most chains is one by 1, and is not
+// made. b is given as rest + quotient·a: whoever has divided b by a does not divide again, and whoever has not gives (0, b). Where
+// the chain ends with 0, the next cofactors would be the quotients of b and a by the divisor.
 pub fn cofactors(m: u32, a: u32, b: u32, quotient: u32, rest: u32) -> Bezout
     requires { ⌜ (0 < m) × (0 < rest) × (b ≡ rest + quotient * a) × (0 < quotient → rest < a) ⌝ }
     ensures { λ r. ⌜ r ≡ bezoutOf m a b ⌝ }
@@ -33,12 +34,12 @@ pub fn cofactors(m: u32, a: u32, b: u32, quotient: u32, rest: u32) -> Bezout
     let mut t_next: u32 = 1;
     let mut odd = false;
     while y > 1 {
-        let times = x / y;
-        let y_after = x % y;
+        let division = divide(x, y);
+        let times = division.quotient;
         let s_after = s + times * s_next;
         let t_after = t + times * t_next;
         x = y;
-        y = y_after;
+        y = division.remainder;
         s = s_next;
         s_next = s_after;
         t = t_next;
@@ -69,9 +70,6 @@ fn signed(size: u32, minus: bool, m: u32) -> u32
     requires { ⌜ 0 < m ⌝ }
     ensures { λ r. ⌜ (r ≡ cond minus (negative m size % m) (size % m)) × (r < m) ⌝ }
 {
-    if minus {
-        negate(size, m)
-    } else {
-        remainder(size, m)
-    }
+    let residue = remainder(size, m);
+    if minus { opposite(residue, m) } else { residue }
 }

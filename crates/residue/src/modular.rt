@@ -17,8 +17,15 @@ pub fn negate(a: u32, m: u32) -> u32
     requires { ⌜ 0 < m ⌝ }
     ensures { λ r. ⌜ (r ≡ negative m a % m) × (r < m) ⌝ }
 {
-    let rest = remainder(a, m);
-    if rest == 0 { 0 } else { m - rest }
+    opposite(remainder(a, m), m)
+}
+
+// The negative of a residue.
+pub(crate) fn opposite(a: u32, m: u32) -> u32
+    requires { ⌜ a < m ⌝ }
+    ensures { λ r. ⌜ (r ≡ negative m a % m) × (r < m) ⌝ }
+{
+    if a == 0 { 0 } else { m - a }
 }
 
 // Most numbers are residues already, and then no division is made.

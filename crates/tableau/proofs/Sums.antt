@@ -48,21 +48,21 @@ halves-end i low high a b h e f =
 high-half : (x : ℕ) → x ≤ 18446744065119617025 → x / 4294967296 ≤ 4294967295
 high-half x h = omega arith
 
-pub high-fits : (i n high x : ℕ) → i < n → n ≤ 65536 → high ≤ i * 4294967295 → x ≤ 18446744065119617025
-    → high + x / 4294967296 < 18446744073709551616
-high-fits i n high x h g e f = sum (x / 4294967296) (high-half x f)
+pub high-fits : (i n high x q : ℕ) → i < n → n ≤ 65536 → high ≤ i * 4294967295 → x ≤ 18446744065119617025
+    → q ≡ x / 4294967296 → high + q < 18446744073709551616
+high-fits i n high x q h g e f is = sum (rw is (high-half x f))
   where
-    sum : (y : ℕ) → y ≤ 4294967295 → high + y < 18446744073709551616
-    sum y k = omega arith
+    sum : q ≤ 4294967295 → high + q < 18446744073709551616
+    sum k = omega arith
 
-pub join-is : (m low high h : ℕ) → h ≡ (high + low / 4294967296) % m
-    → (h * 4294967296 + low % 4294967296) % m ≡ (low + high * 4294967296) % m
-join-is m low high h e =
-    rw e (congruent-add (congruent-mul (congruent-mod m (high + low / 4294967296)) (congruent-refl {a = 4294967296})) congruent-refl .same)
-    ∙ ap (λ (n : ℕ). n % m) (carried (low / 4294967296) (low % 4294967296) (div-add-mod' low 4294967296))
+pub join-is : (m low high p q h : ℕ) → p ≡ low % 4294967296 → q ≡ low / 4294967296 → h ≡ (high + q) % m
+    → (h * 4294967296 + p) % m ≡ (low + high * 4294967296) % m
+join-is m low high p q h rest carry e =
+    rw e (congruent-add (congruent-mul (congruent-mod m (high + q)) (congruent-refl {a = 4294967296})) congruent-refl .same)
+    ∙ ap (λ (n : ℕ). n % m) carried
   where
-    carried : (p q : ℕ) → p * 4294967296 + q ≡ low → (high + p) * 4294967296 + q ≡ low + high * 4294967296
-    carried p q f = omega (arith, f)
+    carried : (high + q) * 4294967296 + p ≡ low + high * 4294967296
+    carried = omega (arith, rest, carry, div-add-mod' low 4294967296)
 
 pub dot-short : (p q : ℕ) (a v : List ℕ) → length v ≤ p → length v ≤ q → dot (take p a) v ≡ dot (take q a) v
 dot-short p q a [] h g = dot-nil (take p a) ∙ sym (dot-nil (take q a))

@@ -12,6 +12,8 @@ use crate::line::combine_both;
 use crate::line::multiple;
 use crate::line::reduce;
 use crate::line::scale;
+use residue::division::Division;
+use residue::division::divide;
 use residue::extended::cofactors;
 use residue::modular::negate;
 
@@ -37,18 +39,17 @@ fn insert_first(row: &mut [u32], line: &mut [u32], m: u32, inverse: u64) -> bool
 }
 
 // Most pivots are 1 soon, and a division by 1 is left out.
-fn quotient(v: u32, d: u32) -> u32
+fn divide_by_pivot(v: u32, d: u32) -> Division
     requires { ⌜ 0 < d ⌝ }
-    ensures { λ r. ⌜ r ≡ v / d ⌝ }
+    ensures { λ r. ⌜ (r .quotient ≡ v / d) × (r .remainder ≡ v % d) ⌝ }
 {
-    if d == 1 { v } else { v / d }
-}
-
-fn remainder(v: u32, d: u32) -> u32
-    requires { ⌜ 0 < d ⌝ }
-    ensures { λ r. ⌜ r ≡ v % d ⌝ }
-{
-    if d == 1 { 0 } else { v % d }
+    if d == 1 {
+        return Division {
+            quotient: v,
+            remainder: 0,
+        };
+    }
+    divide(v, d)
 }
 
 // One column; whether the line is used up. Nothing is done where the line's entry is 0, and the row stays where its
@@ -65,8 +66,9 @@ fn insert_at(row: &mut [u32], line: &mut [u32], m: u32, inverse: u64) -> bool
         if d == m {
             return insert_first(row, line, m, inverse);
         }
-        let times = quotient(v, d);
-        let rest = remainder(v, d);
+        let division = divide_by_pivot(v, d);
+        let times = division.quotient;
+        let rest = division.remainder;
         if rest == 0 {
             reduce(&row[1..], &mut line[1..], m, inverse, times);
         } else {

@@ -1,9 +1,10 @@
-// Sums of products mod m, reduced once. A product has up to 64 bits, so the low and the high halves are summed apart, and the
-// loop does not divide.
+// Sums of products mod m, reduced once. A product has up to 64 bits, so the low and the high halves are summed apart. The loop
+// divides by 2^32 alone, which is a shift.
 ghost use mathlib.Core.Path.{_≡_};
 ghost use Prim.Native.Nat.{_+_, _*_, _%_, _<_, _≤_};
 ghost use lib.ListN.{length};
 ghost use Rattle.equations.specs.Equation.{dot};
+use residue::division::divide_wide;
 use residue::modular::product;
 use residue::modular::reduce;
 use residue::modular::wide;
@@ -16,9 +17,9 @@ pub fn sum(a: &[u32], b: &[u32], m: u32) -> u32
     let mut high: u64 = 0;
     let mut i = 0;
     while i < a.len() {
-        let x = product(a[i], b[i]);
-        low += x % 4294967296;
-        high += x / 4294967296;
+        let halves = divide_wide(product(a[i], b[i]), 4294967296);
+        low += halves.remainder;
+        high += halves.quotient;
         i += 1;
     }
     join(low, high, m)
@@ -33,7 +34,8 @@ fn join(low: u64, high: u64, m: u32) -> u32
     if high == 0 {
         reduce(low, m)
     } else {
-        let rest = reduce(high + low / 4294967296, m);
-        reduce(wide(rest) * 4294967296 + low % 4294967296, m)
+        let halves = divide_wide(low, 4294967296);
+        let rest = reduce(high + halves.quotient, m);
+        reduce(wide(rest) * 4294967296 + halves.remainder, m)
     }
 }

@@ -17,12 +17,12 @@ use Rattle.slices.specs.Over.{over}
 use Rattle.slices.proofs.Over.{over-one}
 use Rattle.tape.specs.Text.{decimal, decimal-small, decimal-step, spaced, lineOf}
 
-pub decimal-length : (x : ℕ) → 10 ≤ x → length (decimal x) ≡ length (decimal (x / 10)) + 1
-decimal-length x more = ap length (decimal-step x more) ∙ length-append (decimal (x / 10)) _
+pub decimal-length : (x : ℕ) {q : ℕ} → 10 ≤ x → q ≡ x / 10 → length (decimal x) ≡ length (decimal q) + 1
+decimal-length x more tens = rw tens (ap length (decimal-step x more) ∙ length-append (decimal (x / 10)) _)
 
 pub decimal-some : (x : ℕ) → 0 < length (decimal x)
 decimal-some x =
-    ⊎-elim (λ h. omega (arith, ap length (decimal-small x (omega arith)))) (λ h. omega (arith, decimal-length x (omega arith)))
+    ⊎-elim (λ h. omega (arith, ap length (decimal-small x (omega arith)))) (λ h. omega (arith, decimal-length x (omega arith) refl))
     (eq-zero-or-pos (x / 10))
 
 -- the first number with k digits more than one
@@ -34,7 +34,7 @@ decimal-within : (k x : ℕ) → x < next k → length (decimal x) ≤ suc k
 decimal-within zero x small = omega (arith, ap length (decimal-small x small))
 decimal-within (suc k) x small =
     ⊎-elim (λ h. omega (arith, ap length (decimal-small x (omega arith))))
-    (λ h. omega (arith, decimal-length x (omega arith), decimal-within k (x / 10) (omega arith))) (eq-zero-or-pos (x / 10))
+    (λ h. omega (arith, decimal-length x (omega arith) refl, decimal-within k (x / 10) (omega arith))) (eq-zero-or-pos (x / 10))
 
 pub decimal-most : (x : ℕ) → x < 2 ^ 32 → length (decimal x) ≤ 10
 decimal-most x small = decimal-within 9 x (omega arith)
@@ -42,11 +42,11 @@ decimal-most x small = decimal-within 9 x (omega arith)
 pub decimal-first : (x d : ℕ) (old : List ℕ) → x < 10 → d ≡ 48 + x → 0 < length old → set old 0 d ≡ over (decimal x) old
 decimal-first x d old small is room = rw (decimal-small x small, is) (over-one [] old (48 + x) room)
 
-pub decimal-next : (x d k : ℕ) (old : List ℕ) {new : List ℕ} → 10 ≤ x → d ≡ 48 + x % 10 → k ≡ length (decimal (x / 10))
-    → length (decimal x) ≤ length old → new ≡ over (decimal (x / 10)) old → set new k d ≡ over (decimal x) old
-decimal-next x d k old more is place room front =
-    rw (decimal-step x more, front, is, place)
-    (over-one (decimal (x / 10)) old (48 + x % 10) (omega (arith, decimal-length x more)))
+pub decimal-next : (x q r d k : ℕ) (old : List ℕ) {new : List ℕ} → 10 ≤ x → q ≡ x / 10 → r ≡ x % 10 → d ≡ 48 + r
+    → k ≡ length (decimal q) → length (decimal x) ≤ length old → new ≡ over (decimal q) old → set new k d ≡ over (decimal x) old
+decimal-next x q r d k old more tens last is place room front =
+    rw (decimal-step x more, sym tens, sym last, front, is, place)
+    (over-one (decimal q) old (48 + r) (omega (arith, decimal-length x more tens)))
 
 spaced-append : (xs ys : List ℕ) → spaced (xs ++ ys) ≡ spaced xs ++ spaced ys
 spaced-append [] ys = refl

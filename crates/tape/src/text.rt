@@ -5,6 +5,7 @@ ghost use Prim.Native.Nat.{_+_, _*_, _<_, _≤_};
 ghost use lib.ListN.{length};
 ghost use Rattle.slices.specs.Over.{over};
 ghost use Rattle.tape.specs.Text.{decimal, spaced, lineOf};
+use residue::division::divide;
 use slices::copying::copy_bytes;
 
 const SPACE: u8 = 32;
@@ -29,8 +30,9 @@ fn decimal_into(x: u32, out: &mut [u8]) -> usize
         out[0] = digit(x);
         return 1;
     }
-    let at = decimal_into(x / 10, out);
-    out[at] = digit(x % 10);
+    let tens = divide(x, 10);
+    let at = decimal_into(tens.quotient, out);
+    out[at] = digit(tens.remainder);
     at + 1
 }
 

@@ -4,6 +4,7 @@ ghost use Prim.Native.Nat.{min};
 ghost use lib.ListN.{length, take};
 ghost use Rattle.slices.specs.Over.{over};
 ghost use Rattle.words.specs.Words.{wordOf, wordsIn, kindsOf, numbersOf};
+use residue::division::divide;
 use slices::lengths::smaller;
 
 // 2^28: the kind stands above it, the number below.
@@ -17,9 +18,10 @@ pub struct Word {
 pub fn unpack(word: u32) -> Word
     ensures { λ r. ⌜ r ≡ wordOf word ⌝ }
 {
+    let parts = divide(word, NUMBERS);
     Word {
-        kind: word / NUMBERS,
-        number: word % NUMBERS,
+        kind: parts.quotient,
+        number: parts.remainder,
     }
 }
 

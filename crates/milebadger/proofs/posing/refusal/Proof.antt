@@ -1,8 +1,8 @@
 -- `posing::refusal` meets its contract: it asks the questions in their order, and the last one only where none before it turned the
 -- system away.
-use mathlib.Core.Path.{refl, sym, ap, _∙_}
-use mathlib.Core.Bool.{_&&_}
-use mathlib.Core.List.{[], _∷_}
+use mathlib.Core.Path.{_≡_, sym, ap, _∙_}
+use mathlib.Core.Bool.{Bool, _&&_}
+use mathlib.Core.List.{List, [], _∷_}
 use Prim.Native.Nat.{ℕ, _+_, _/_, _%_}
 use native.Mathlib.Omega.{arith}
 use borrow.Author.Needs.{needs}
@@ -10,7 +10,7 @@ use denote.Ref.{now}
 use lib.Dec.{eqb, leb}
 use lib.ListN.{length}
 use Rattle.questions.specs.Questions.{asks}
-use Rattle.questions.proofs.Ladder.{thenAsks, nothing-asked, then-asked, asked-enough}
+use Rattle.questions.proofs.Ladder.{Asked, thenAsks, nothing-asked, then-asked, asked-enough}
 use Rattle.equations.specs.Multipliers.{allBelow}
 use Rattle.ledger.specs.Ledger.{mostEquations}
 use Rattle.ledger.specs.Questions.{allowedUnknowns}
@@ -18,6 +18,22 @@ use Rattle.milebadger.specs.Calls.{largestNumber}
 use Rattle.milebadger.proofs.Questions.{number-largest}
 use Rattle.milebadger.proofs.posing.refusal.Statement.{statement}
 use Rattle.milebadger.proofs.posing.refusal.Tie as tie
+
+-- the questions before the numbers are looked at; q and r are quotient and remainder of the numbers' count by that of a line
+lines-asked : (m n : ℕ) (xs : List ℕ) {modulus unknowns : Bool} {q r first second third fourth : ℕ}
+    → modulus ≡ (leb 2 m && leb m largestNumber) → unknowns ≡ allowedUnknowns n
+    → (q ≡ length xs / (n + 1)) × (r ≡ length xs % (n + 1))
+    → first ≡ thenAsks 0 2 modulus → second ≡ thenAsks first 3 unknowns → third ≡ thenAsks second 1 (eqb r 0)
+    → fourth ≡ thenAsks third 5 (leb q mostEquations)
+    → Asked (
+    asks 2 (leb 2 m && leb m largestNumber) ∷ asks 3 (allowedUnknowns n) ∷ asks 1 (eqb (length xs % (n + 1)) 0)
+    ∷ asks 5 (leb (length xs / (n + 1)) mostEquations) ∷ []
+    ) fourth
+lines-asked m n xs allowed some division e f g h =
+    let modulus = then-asked nothing-asked 2 tt (leb 2 m && leb m largestNumber) (λ yes. allowed) e in
+    let unknowns = then-asked modulus 3 tt (allowedUnknowns n) (λ yes. some) f in
+    let whole = then-asked unknowns 1 tt (eqb (length xs % (n + 1)) 0) (λ yes. ap (λ (k : ℕ). eqb k 0) (division .1)) g in
+    then-asked whole 5 tt (leb (length xs / (n + 1)) mostEquations) (λ yes. ap (λ (k : ℕ). leb k mostEquations) (division .0)) h
 
 add-width : tie.Need-add-width
 add-width c = search needs
@@ -31,14 +47,11 @@ are-unknowns-requires c κs = search needs
 ask-requires-2 : tie.Need-ask-requires-2
 ask-requires-2 c κs = search needs
 
-rem-ask : tie.Need-rem-ask
-rem-ask c = search needs
+divide-length-requires : tie.Need-divide-length-requires
+divide-length-requires c κs = search needs
 
 ask-requires-3 : tie.Need-ask-requires-3
 ask-requires-3 c κs = search needs
-
-div-ask : tie.Need-div-ask
-div-ask c = search needs
 
 ask-requires-4 : tie.Need-ask-requires-4
 ask-requires-4 c κs = search needs
@@ -46,15 +59,12 @@ ask-requires-4 c κs = search needs
 returns : tie.Need-returns
 returns c =
     let b = c .before in
-    let a = b .before .before .before .before .before .before .args in
-    let xs = now (a .lines) in
-    let modulus =
-    then-asked nothing-asked 2 tt (leb 2 (a .m) && leb (a .m) largestNumber) (λ yes. number-largest (a .m) (omega arith))
-    (b .before .before .before .before .ask .ensures) in
-    let unknowns = then-asked modulus 3 tt (allowedUnknowns (a .n)) (λ yes. b .before .before .before .are-unknowns .ensures) (b .before .before .ask2 .ensures) in
-    let whole = then-asked unknowns 1 tt (eqb (length xs % (a .n + 1)) 0) (λ yes. refl) (b .before .ask3 .ensures) in
-    let few = then-asked whole 5 tt (leb (length xs / (a .n + 1)) mostEquations) (λ yes. refl) (b .ask4 .ensures) in
-    asked-enough few (asks 6 (allBelow (a .m) xs) ∷ []) (c .if1 .taken)
+    let d = b .before .before .before .before in
+    let a = d .before .before .before .before .before .args in
+    asked-enough
+    (lines-asked (a .m) (a .n) (now (a .lines)) (number-largest (a .m) (omega arith)) (d .before .before .are-unknowns .ensures) (d .divide-length .ensures)
+    (d .before .before .before .ask .ensures) (d .before .ask2 .ensures) (b .before .before .ask3 .ensures) (b .ask4 .ensures))
+    (asks 6 (allBelow (a .m) (now (a .lines))) ∷ []) (c .if1 .taken)
 
 all-below-requires : tie.Need-all-below-requires
 all-below-requires c κs = search needs
@@ -65,15 +75,12 @@ ask-requires-5 c κs = search needs
 returns-2 : tie.Need-returns-2
 returns-2 c =
     let b = c .before .before .before in
-    let a = b .before .before .before .before .before .before .args in
-    let xs = now (a .lines) in
-    let modulus =
-    then-asked nothing-asked 2 tt (leb 2 (a .m) && leb (a .m) largestNumber) (λ yes. number-largest (a .m) (omega arith))
-    (b .before .before .before .before .ask .ensures) in
-    let unknowns = then-asked modulus 3 tt (allowedUnknowns (a .n)) (λ yes. b .before .before .before .are-unknowns .ensures) (b .before .before .ask2 .ensures) in
-    let whole = then-asked unknowns 1 tt (eqb (length xs % (a .n + 1)) 0) (λ yes. refl) (b .before .ask3 .ensures) in
-    let few = then-asked whole 5 tt (leb (length xs / (a .n + 1)) mostEquations) (λ yes. refl) (b .ask4 .ensures) in
-    then-asked few 6 tt (allBelow (a .m) xs) (λ yes. c .before .all-below .ensures)
+    let d = b .before .before .before .before in
+    let a = d .before .before .before .before .before .args in
+    then-asked
+    (lines-asked (a .m) (a .n) (now (a .lines)) (number-largest (a .m) (omega arith)) (d .before .before .are-unknowns .ensures) (d .divide-length .ensures)
+    (d .before .before .before .ask .ensures) (d .before .ask2 .ensures) (b .before .before .ask3 .ensures) (b .ask4 .ensures))
+    6 tt (allBelow (a .m) (now (a .lines))) (λ yes. c .before .all-below .ensures)
     (c .ask5 .ensures ∙ ap (λ (k : ℕ). thenAsks k 6 (c .before .all-below .result)) (sym (c .before .before .if1 .left))) .is
 
 pub refusal-spec : {M : Type 1} → statement M
@@ -84,9 +91,8 @@ refusal-spec =
     ask-requires
     are-unknowns-requires
     ask-requires-2
-    rem-ask
+    divide-length-requires
     ask-requires-3
-    div-ask
     ask-requires-4
     returns
     all-below-requires

@@ -1,5 +1,5 @@
 -- `solve` meets its contract: the numbers that it computes are those of the laws `solutions-are` and `solutions-none`.
-use mathlib.Core.Path.{_≡_, sym, ap}
+use mathlib.Core.Path.{_≡_, sym, ap, _∙_}
 use Prim.Native.Nat.{ℕ, _*_, _/_, _%_, _<_}
 use native.Mathlib.Nat.{le-div-iff-mul-le}
 use native.Mathlib.Omega.{arith}
@@ -41,34 +41,34 @@ module _ (a b m : ℕ) (z : Bezout) (pos : 0 < m) (is : z ≡ bezoutOf m a m) wh
 cofactors-requires : tie.Need-cofactors-requires
 cofactors-requires c κs = search needs
 
-rem-if1 : tie.Need-rem-if1
-rem-if1 c =
+divide-requires : tie.Need-divide-requires
+divide-requires c κs =
     let p = c .before .args in
     divisor-positive (p .a) (p .b) (p .m) (c .cofactors .result) (omega arith) (c .cofactors .ensures .0)
 
 returns : tie.Need-returns
 returns c =
-    let p = c .before .before .args in
-    found-none (p .a) (p .b) (p .m) (c .before .cofactors .result) (omega arith) (c .before .cofactors .ensures .0)
-    (c .if1 .taken)
-
-div-mul : tie.Need-div-mul
-div-mul c =
-    let p = c .before .before .args in
-    divisor-positive (p .a) (p .b) (p .m) (c .before .cofactors .result) (omega arith) (c .before .cofactors .ensures .0)
+    let d = c .before .before in
+    let z = d .before .cofactors in
+    let p = d .before .before .args in
+    found-none (p .a) (p .b) (p .m) (z .result) (omega arith) (z .ensures .0) (rw (d .divide .ensures .1) at (c .if1 .taken))
 
 mul-requires : tie.Need-mul-requires
 mul-requires c κs =
-    let p = c .before .before .args in
-    omega (arith, spacing-positive (p .a) (p .b) (p .m) (c .before .cofactors .result) (omega arith) (c .before .cofactors .ensures .0))
+    let z = c .before .before .before .cofactors in
+    let p = c .before .before .before .before .args in
+    omega (arith, spacing-positive (p .a) (p .b) (p .m) (z .result) (omega arith) (z .ensures .0))
 
 returns-2 : tie.Need-returns-2
 returns-2 c =
-    let p = c .before .before .before .args in
-    found (p .a) (p .b) (p .m) (c .before .before .cofactors .result) (omega arith) (c .before .before .cofactors .ensures .0)
-    (c .mul .result) (omega arith) (c .mul .ensures .0)
+    let d = c .before .before .before in
+    let z = d .before .cofactors in
+    let p = d .before .before .args in
+    found (p .a) (p .b) (p .m) (z .result) (omega arith) (z .ensures .0) (c .mul .result)
+    (sym (d .divide .ensures .1) ∙ c .before .if1 .left)
+    (c .mul .ensures .0 ∙ ap (λ (q : ℕ). z .result .s * q % z .result .p) (d .divide .ensures .0))
 
 pub solve-spec : {M : Type 1} → statement M
 solve-spec =
     tie.close
-    (tie.spec cofactors-requires rem-if1 returns div-mul mul-requires returns-2)
+    (tie.spec cofactors-requires divide-requires returns mul-requires returns-2)

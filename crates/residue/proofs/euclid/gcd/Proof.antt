@@ -21,23 +21,23 @@ abbrev μ-loop : tie.MeasureT-loop
 loop-holds : tie.Need-loop-holds Inv-loop μ-loop
 loop-holds c = search needs
 
-rem-rest : tie.Need-rem-rest Inv-loop μ-loop
-rem-rest c = search needs
+divide-requires : tie.Need-divide-requires Inv-loop μ-loop
+divide-requires c κs = search needs
 
 add-count : tie.Need-add-count Inv-loop μ-loop
 add-count c =
-    let l = c .before .loop in
-    let p : 0 < l .y = omega arith in
-    omega (arith, divisions-step (l .x) (l .y) p, divisions-le (c .before .before .args .a) (c .before .before .args .b))
+    let l = c .before .before .loop in
+    let p = c .before .before .before .args in
+    omega (arith, divisions-step (l .x) (l .y) (omega arith), divisions-le (p .a) (p .b))
 
 loop-less : tie.Need-loop-less Inv-loop μ-loop
-loop-less c = mod-lt (c .before .loop .x) (omega arith)
+loop-less c = rw (c .divide .ensures .1) (mod-lt (c .before .before .loop .x) (omega arith))
 
 loop-again : tie.Need-loop-again Inv-loop μ-loop
 loop-again c =
-    let l = c .before .loop in
+    let l = c .before .before .loop in
     let p : 0 < l .y = omega arith in
-    (sym (gcd-step (l .x) (l .y) p) ∙ l .inv .0, omega (arith, divisions-step (l .x) (l .y) p))
+    rw (c .divide .ensures .1) (sym (gcd-step (l .x) (l .y) p) ∙ l .inv .0, omega (arith, divisions-step (l .x) (l .y) p))
 
 returns : tie.Need-returns Inv-loop μ-loop
 unfolding chainOf
@@ -51,4 +51,4 @@ returns c =
     (rw (d, n), rw n (lame a b))
 
 pub gcd-spec : {M : Type 1} → statement M
-gcd-spec = tie.close (tie.spec Inv-loop μ-loop loop-holds rem-rest add-count loop-less loop-again returns)
+gcd-spec = tie.close (tie.spec Inv-loop μ-loop loop-holds divide-requires add-count loop-less loop-again returns)

@@ -54,10 +54,11 @@ begins m a b (suc k) rest pos some whole less =
     let q : suc k ≡ b / a = quotient-is b a (suc k) (omega arith) (omega (arith, whole)) (omega (arith, whole)) in
     rw (r, q) (reached-given m a b pos (omega arith) (omega (arith, whole)))
 
-step : {odd : Bool} {m a b x y s s-next t t-next : ℕ} → 0 < m → 0 < y → Reached odd m a b x y s s-next t t-next
-    → Reached (not odd) m a b y (x % y) s-next (s + x / y * s-next) t-next (t + x / y * t-next)
-step {odd} {x = x} {y = y} pos h c =
-    (sym (gcd-step x y h) ∙ c .0, column-step odd pos h (c .1), column-step (not odd) pos h (c .2))
+step : {odd : Bool} {m a b x y s s-next t t-next q r : ℕ} → 0 < m → 0 < y → q ≡ x / y → r ≡ x % y
+    → Reached odd m a b x y s s-next t t-next
+    → Reached (not odd) m a b y r s-next (s + q * s-next) t-next (t + q * t-next)
+step {odd} {x = x} {y = y} pos h quotient rest c =
+    rw (quotient, rest) (sym (gcd-step x y h) ∙ c .0, column-step odd pos h (c .1), column-step (not odd) pos h (c .2))
 
 divisor-end : {odd : Bool} {m a b x y u u′ v v′ : ℕ} → y ≡ 0 → Reached odd m a b x y u u′ v v′ → x ≡ gcd a b
 divisor-end {x = x} last c = sym (gcd-zero x) ∙ ap (gcd x) (sym last) ∙ c .0
@@ -86,29 +87,28 @@ loop-holds c =
     let r = c .pre in
     begins (p .m) (p .a) (p .b) (p .quotient) (p .rest) (r .0) (r .1) (r .2) (r .3)
 
-div-times : tie.Need-div-times Inv-loop μ-loop
-div-times c = search needs
-
-rem-y-after : tie.Need-rem-y-after Inv-loop μ-loop
-rem-y-after c = search needs
+divide-requires : tie.Need-divide-requires Inv-loop μ-loop
+divide-requires c κs = search needs
 
 mul-s-after : tie.Need-mul-s-after Inv-loop μ-loop
-mul-s-after c = omega (arith, column-fits (omega arith) (c .before .loop .inv .1))
+mul-s-after c = omega (arith, column-fits (omega arith) (c .divide .ensures .0) (c .before .before .loop .inv .1))
 
 add-s-after : tie.Need-add-s-after Inv-loop μ-loop
-add-s-after c = omega (arith, column-fits (omega arith) (c .before .loop .inv .1))
+add-s-after c = omega (arith, column-fits (omega arith) (c .divide .ensures .0) (c .before .before .loop .inv .1))
 
 mul-t-after : tie.Need-mul-t-after Inv-loop μ-loop
-mul-t-after c = omega (arith, column-fits (omega arith) (c .before .loop .inv .2))
+mul-t-after c = omega (arith, column-fits (omega arith) (c .divide .ensures .0) (c .before .before .loop .inv .2))
 
 add-t-after : tie.Need-add-t-after Inv-loop μ-loop
-add-t-after c = omega (arith, column-fits (omega arith) (c .before .loop .inv .2))
+add-t-after c = omega (arith, column-fits (omega arith) (c .divide .ensures .0) (c .before .before .loop .inv .2))
 
 loop-less : tie.Need-loop-less Inv-loop μ-loop
-loop-less c = mod-lt (c .before .loop .x) (omega arith)
+loop-less c = rw (c .divide .ensures .1) (mod-lt (c .before .before .loop .x) (omega arith))
 
 loop-again : tie.Need-loop-again Inv-loop μ-loop
-loop-again c = step (omega arith) (omega arith) (c .before .loop .inv)
+loop-again c =
+    let d = c .divide in
+    step (omega arith) (omega arith) (d .ensures .0) (d .ensures .1) (c .before .before .loop .inv)
 
 signed-requires : tie.Need-signed-requires Inv-loop μ-loop
 signed-requires c κs = search needs
@@ -129,7 +129,7 @@ returns c =
     let l = c .before .before .before .before .loop in
     let pos : 0 < p .m = omega arith in
     let one : l .y ≡ 1 = omega arith in (
-      ends pos (ap (λ (k : ℕ). l .x % k) one ∙ mod-one (l .x)) (step pos (omega arith) (l .inv)) (sym one)
+      ends pos (ap (λ (k : ℕ). l .x % k) one ∙ mod-one (l .x)) (step pos (omega arith) refl refl (l .inv)) (sym one)
           (c .before .signed .ensures .0) (rw (Bool·not-not (l .odd)) (c .signed2 .ensures .0))
           (sym (div-one (p .a))) (sym (div-one (p .b))),
       (c .before .signed .ensures .1, c .signed2 .ensures .1),
@@ -151,8 +151,7 @@ cofactors-spec =
     Inv-loop
     μ-loop
     loop-holds
-    div-times
-    rem-y-after
+    divide-requires
     mul-s-after
     add-s-after
     mul-t-after

@@ -32,14 +32,9 @@ same-length-2 c = search needs
 returns : tie.Need-returns
 returns c = search needs
 
-quotient-requires : tie.Need-quotient-requires
-quotient-requires c κs =
+divide-by-pivot-requires : tie.Need-divide-by-pivot-requires
+divide-by-pivot-requires c κs =
     let z = c .before .before .before .before .before .before in
-    omega (arith, row-head (z .args .m) (z .args .row .now) (z .pre .0) (z .pre .2))
-
-remainder-requires : tie.Need-remainder-requires
-remainder-requires c κs =
-    let z = c .before .before .before .before .before .before .before in
     omega (arith, row-head (z .args .m) (z .args .row .now) (z .pre .0) (z .pre .2))
 
 sub-reduce : tie.Need-sub-reduce
@@ -62,7 +57,7 @@ part-reduce-end-2 c = search needs
 
 reduce-requires : tie.Need-reduce-requires
 reduce-requires c κs =
-    let z = c .before .before .before .before .before .before .before .before .before .before .before .before in
+    let z = c .before .before .before .before .before .before .before .before .before .before .before in
     let R = z .args .row .now in
     let W = z .args .line .now in (
       omega (arith, below-at (z .args .m) 0 W (z .pre .3) (omega arith), div-le-self (getD W 0 0) (getD R 0 0)),
@@ -73,13 +68,12 @@ reduce-requires c κs =
 
 cofactors-requires : tie.Need-cofactors-requires
 cofactors-requires c κs =
-    let z = c .before .before .before .before .before .before .before .before .before in
+    let z = c .before .before .before .before .before .before .before .before in
     let d = getD (z .args .row .now) 0 0 in
     let v = getD (z .args .line .now) 0 0 in
     let pos = row-head (z .args .m) (z .args .row .now) (z .pre .0) (z .pre .2) in
-    let q = c .before .before .quotient in
-    let r = c .before .remainder in
-    let e = divided v d (q .result) (r .result) (pos .0) (q .ensures) (r .ensures) in
+    let k = c .before .divide-by-pivot in
+    let e = divided v d (k .result .quotient) (k .result .remainder) (pos .0) (k .ensures .0) (k .ensures .1) in
     (omega (arith, pos), omega arith, e .0, λ _. e .1)
 
 sub-combine-both : tie.Need-sub-combine-both
@@ -105,7 +99,7 @@ negate-requires c κs = search needs
 
 combine-both-requires : tie.Need-combine-both-requires
 combine-both-requires c κs =
-    let z = c .before .before .before .before .before .before .before .before .before .before .before .before .before in
+    let z = c .before .before .before .before .before .before .before .before .before .before .before .before in
     let R = z .args .row .now in
     let W = z .args .line .now in
     let f = c .before .before .before .cofactors in (
@@ -134,16 +128,17 @@ same-length-4 c = search needs
 
 returns-2 : tie.Need-returns-2
 returns-2 c =
-    let z = c .before .before .before .before .before .before .before .before .before .before .before .before .before .before .before in
+    let q = c .before .before .before .before .before .before .before .divide-by-pivot in
+    let z = c .before .before .before .before .before .before .before .before .before .before .before .before .before .before in
     let a = z .args in
     let R = a .row .now in
     let W = a .line .now in
     let k = c .before .before .reduce in (
       λ _. column-divided (a .m) R W (k .last .1 .0)
           (z .pre .0) (z .pre .1) (z .pre .2) (z .pre .3) (omega arith)
-          (sym (c .before .before .before .before .before .before .before .remainder .ensures) ∙ c .before .before .before .before .before .before .if3 .taken)
+          (sym (q .ensures .1) ∙ c .before .before .before .before .before .before .if3 .taken)
           (k .ensures
-          ∙ ap (λ (p : ℕ). combine (a .m) p (negative (a .m) 1 % a .m) (lent 1 R) (lent 1 W)) (c .before .before .before .before .before .before .before .before .quotient .ensures)),
+          ∙ ap (λ (p : ℕ). combine (a .m) p (negative (a .m) 1 % a .m) (lent 1 R) (lent 1 W)) (q .ensures .0)),
       λ e. not-both e refl,
     )
 
@@ -155,15 +150,16 @@ same-length-6 c = search needs
 
 returns-3 : tie.Need-returns-3
 returns-3 c =
-    let z = c .before .before .before .before .before .before .before .before .before .before .before .before .before .before .before .before .before .before in
+    let q = c .before .before .before .before .before .before .before .before .before .before .divide-by-pivot in
+    let z = c .before .before .before .before .before .before .before .before .before .before .before .before .before .before .before .before .before in
     let a = z .args in
     let f = c .before .before .before .before .before .before .before .before .cofactors in
     let k = c .before .before .before .before .combine-both in
     let n = c .before .before .before .before .before .negate in (
       λ _. column-reduced (a .m) (f .result .divisor) (f .result .s) (f .result .t) (f .result .p) (n .result)
           (a .row .now) (a .line .now) (k .last .0) (k .last .1 .0)
-          (z .pre .0) (z .pre .1) (z .pre .2) (z .pre .3) (omega (arith, c .before .before .before .before .before .before .before .before .before .before .before .before .before .if1 .taken))
-          (λ e. c .before .before .before .before .before .before .before .before .before .if3 .left (c .before .before .before .before .before .before .before .before .before .before .remainder .ensures ∙ e))
+          (z .pre .0) (z .pre .1) (z .pre .2) (z .pre .3) (omega (arith, c .before .before .before .before .before .before .before .before .before .before .before .before .if1 .taken))
+          (λ e. c .before .before .before .before .before .before .before .before .before .if3 .left (q .ensures .1 ∙ e))
           (reduction (a .m) (getD (a .row .now) 0 0) (getD (a .line .now) 0 0) (f .result) (n .result) (f .ensures .0)
           (n .ensures .0))
           (k .ensures .0) (k .ensures .1),
@@ -187,8 +183,7 @@ insert-at-spec =
     same-length
     same-length-2
     returns
-    quotient-requires
-    remainder-requires
+    divide-by-pivot-requires
     sub-reduce
     part-reduce-start
     part-reduce-end

@@ -10,6 +10,9 @@ use Rattle.tableau.proofs.products.join.Tie as tie
 reduce-requires : tie.Need-reduce-requires
 reduce-requires c κs = search needs
 
+divide-wide-requires : tie.Need-divide-wide-requires
+divide-wide-requires c κs = search needs
+
 add-reduce : tie.Need-add-reduce
 add-reduce c = search needs
 
@@ -36,16 +39,19 @@ returns c =
 
 returns-2 : tie.Need-returns-2
 returns-2 c =
-    let a = c .before .before .before .before .args in
+    let w = c .before .before in
+    let d = w .before .before .before .divide-wide in
+    let a = w .before .before .before .before .before .args in
     c .reduce3 .ensures .0
-    ∙ join-is (a .m) (a .low) (a .high) (c .before .wide .result)
-    (c .before .wide .ensures ∙ c .before .before .reduce2 .ensures .0)
+    ∙ join-is (a .m) (a .low) (a .high) (d .result .remainder) (d .result .quotient) (w .wide .result) (d .ensures .1) (d .ensures .0)
+    (w .wide .ensures ∙ w .before .reduce2 .ensures .0)
 
 pub join-spec : {M : Type 1} → statement M
 join-spec =
     tie.close
     (tie.spec
     reduce-requires
+    divide-wide-requires
     add-reduce
     reduce-requires-2
     wide-requires

@@ -37,17 +37,22 @@ shared-slice-read-product-2 c = search needs
 product-requires : tie.Need-product-requires Inv-loop μ-loop
 product-requires c κs = search needs
 
+divide-wide-requires : tie.Need-divide-wide-requires Inv-loop μ-loop
+divide-wide-requires c κs = search needs
+
 add-low : tie.Need-add-low Inv-loop μ-loop
 add-low c = search needs
 
 add-high : tie.Need-add-high Inv-loop μ-loop
 add-high c =
-    let l = c .before .before .before .before .loop in
-    let a = c .before .before .before .before .before .before .before .args in
+    let d = c .before .before .divide-wide in
+    let x = c .before .before .before .product in
+    let l = c .before .before .before .before .before .before .before .loop in
+    let a = c .before .before .before .before .before .before .before .before .before .before .args in
     record {
       fits =
-          high-fits (l .i) (length (a .a .now)) (l .high) (c .product .result) (omega arith) (omega arith) (omega arith)
-          (omega arith);
+          high-fits (l .i) (length (a .a .now)) (l .high) (x .result) (d .result .quotient) (omega arith) (omega arith) (omega arith)
+          (omega arith) (d .ensures .0);
     }
 
 add-i : tie.Need-add-i Inv-loop μ-loop
@@ -58,14 +63,17 @@ loop-less c = search needs
 
 loop-again : tie.Need-loop-again Inv-loop μ-loop
 loop-again c =
-    let a = c .before .before .before .before .before .before .before .args in
-    let l = c .before .before .before .before .loop in
-    let x = c .product .result in (
+    let d = c .before .before .divide-wide in
+    let x = c .before .before .before .product in
+    let l = c .before .before .before .before .before .before .before .loop in
+    let a = c .before .before .before .before .before .before .before .before .before .before .args in (
       omega arith,
       omega arith,
       omega arith,
-      halves-next (l .i) (l .low) (l .high) (x % 4294967296) (x / 4294967296) (a .a .now) (a .b .now) (omega arith) (omega arith) (l .inv .3)
-          (ap (λ (z : ℕ). z % 4294967296) (c .product .ensures .0)) (ap (λ (z : ℕ). z / 4294967296) (c .product .ensures .0)),
+      halves-next (l .i) (l .low) (l .high) (d .result .remainder) (d .result .quotient) (a .a .now) (a .b .now)
+          (omega arith) (omega arith) (l .inv .3)
+          (d .ensures .1 ∙ ap (λ (z : ℕ). z % 4294967296) (x .ensures .0))
+          (d .ensures .0 ∙ ap (λ (z : ℕ). z / 4294967296) (x .ensures .0)),
     )
 
 join-requires : tie.Need-join-requires Inv-loop μ-loop
@@ -91,6 +99,7 @@ sum-spec =
     mul-product-2
     shared-slice-read-product-2
     product-requires
+    divide-wide-requires
     add-low
     add-high
     add-i

@@ -8,6 +8,7 @@ use borrow.Fn.Kinds.{In}
 use borrow.Fn.PlainCycle.{Measures, is, falls, and}
 use Rattle.tape.specs.Text.{decimal-small}
 use Rattle.tape.proofs.Printed.{decimal-length, decimal-some, decimal-first, decimal-next}
+use Rattle.residue.proofs.division.divide.Reads as divide-reads
 use Rattle.tape.proofs.text.decimal_into.Reads as decimal-into
 use Rattle.tape.proofs.text.digit.Reads as digit-reads
 use Rattle.tape.proofs.text.decimal_into.Kinds as decimal-into-kinds
@@ -27,6 +28,8 @@ decimal-into-below t = and 1 decimal-into-kinds.ps (falls 1 decimal-into-kinds.p
 decimal-into-digit-requires : (t : ℕ) → decimal-into-lts.Need-digit-requires (
   digit-reads.Asked,
   digit-reads.Learnt,
+  divide-reads.Asked,
+  divide-reads.Learnt,
   decimal-into-below t,
   decimal-into.Post,
 ) (decimal-into-at t) decimal-into.Post
@@ -35,6 +38,8 @@ decimal-into-digit-requires t c κs = search needs
 decimal-into-slice-write-out : (t : ℕ) → decimal-into-lts.Need-slice-write-out (
   digit-reads.Asked,
   digit-reads.Learnt,
+  divide-reads.Asked,
+  divide-reads.Learnt,
   decimal-into-below t,
   decimal-into.Post,
 ) (decimal-into-at t) decimal-into.Post
@@ -43,6 +48,8 @@ decimal-into-slice-write-out t c = omega (arith, decimal-some (c .before .before
 decimal-into-same-length : (t : ℕ) → decimal-into-lts.Need-same-length (
   digit-reads.Asked,
   digit-reads.Learnt,
+  divide-reads.Asked,
+  divide-reads.Learnt,
   decimal-into-below t,
   decimal-into.Post,
 ) (decimal-into-at t) decimal-into.Post
@@ -51,6 +58,8 @@ decimal-into-same-length t c = search needs
 decimal-into-returns : (t : ℕ) → decimal-into-lts.Need-returns (
   digit-reads.Asked,
   digit-reads.Learnt,
+  divide-reads.Asked,
+  divide-reads.Learnt,
   decimal-into-below t,
   decimal-into.Post,
 ) (decimal-into-at t) decimal-into.Post
@@ -61,18 +70,32 @@ decimal-into-returns t c =
       decimal-first (a .x) (c .digit .result) (a .out .now) (omega arith) (c .digit .ensures) (omega arith),
     )
 
+decimal-into-divide-requires : (t : ℕ) → decimal-into-lts.Need-divide-requires (
+  digit-reads.Asked,
+  digit-reads.Learnt,
+  divide-reads.Asked,
+  divide-reads.Learnt,
+  decimal-into-below t,
+  decimal-into.Post,
+) (decimal-into-at t) decimal-into.Post
+decimal-into-divide-requires t c κs = search needs
+
 decimal-into-decimal-into-requires : (t : ℕ) → decimal-into-lts.Need-decimal-into-requires (
   digit-reads.Asked,
   digit-reads.Learnt,
+  divide-reads.Asked,
+  divide-reads.Learnt,
   decimal-into-below t,
   decimal-into.Post,
 ) (decimal-into-at t) decimal-into.Post
 decimal-into-decimal-into-requires t c κs =
-    (search needs, omega (arith, decimal-length (c .before .before .before .args .x) (omega arith)))
+    (search needs, omega (arith, decimal-length (c .before .before .before .before .args .x) (omega arith) (c .before .divide .ensures .0)))
 
 decimal-into-digit-requires-2 : (t : ℕ) → decimal-into-lts.Need-digit-requires-2 (
   digit-reads.Asked,
   digit-reads.Learnt,
+  divide-reads.Asked,
+  divide-reads.Learnt,
   decimal-into-below t,
   decimal-into.Post,
 ) (decimal-into-at t) decimal-into.Post
@@ -81,6 +104,8 @@ decimal-into-digit-requires-2 t c κs = search needs
 decimal-into-slice-write-out-2 : (t : ℕ) → decimal-into-lts.Need-slice-write-out-2 (
   digit-reads.Asked,
   digit-reads.Learnt,
+  divide-reads.Asked,
+  divide-reads.Learnt,
   decimal-into-below t,
   decimal-into.Post,
 ) (decimal-into-at t) decimal-into.Post
@@ -88,12 +113,14 @@ decimal-into-slice-write-out-2 t c =
     omega (
       arith,
       c .before .before .before .decimal-into .ensures .0,
-      decimal-length (c .before .before .before .before .before .before .before .args .x) (omega arith),
+      decimal-length (c .before .before .before .before .before .before .before .before .args .x) (omega arith) (c .before .before .before .before .before .divide .ensures .0),
     )
 
 decimal-into-add-result : (t : ℕ) → decimal-into-lts.Need-add-result (
   digit-reads.Asked,
   digit-reads.Learnt,
+  divide-reads.Asked,
+  divide-reads.Learnt,
   decimal-into-below t,
   decimal-into.Post,
 ) (decimal-into-at t) decimal-into.Post
@@ -101,12 +128,14 @@ decimal-into-add-result t c =
     omega (
       arith,
       c .before .before .before .decimal-into .ensures .0,
-      decimal-length (c .before .before .before .before .before .before .before .args .x) (omega arith),
+      decimal-length (c .before .before .before .before .before .before .before .before .args .x) (omega arith) (c .before .before .before .before .before .divide .ensures .0),
     )
 
 decimal-into-same-length-2 : (t : ℕ) → decimal-into-lts.Need-same-length-2 (
   digit-reads.Asked,
   digit-reads.Learnt,
+  divide-reads.Asked,
+  divide-reads.Learnt,
   decimal-into-below t,
   decimal-into.Post,
 ) (decimal-into-at t) decimal-into.Post
@@ -115,22 +144,27 @@ decimal-into-same-length-2 t c = search needs
 decimal-into-returns-2 : (t : ℕ) → decimal-into-lts.Need-returns-2 (
   digit-reads.Asked,
   digit-reads.Learnt,
+  divide-reads.Asked,
+  divide-reads.Learnt,
   decimal-into-below t,
   decimal-into.Post,
 ) (decimal-into-at t) decimal-into.Post
 decimal-into-returns-2 t c =
-    let a = c .before .before .before .before .before .before .before .args in
+    let d = c .before .before .before .before .before .divide in
+    let a = c .before .before .before .before .before .before .before .before .args in
     let front = c .before .before .before .decimal-into in
     let more : 10 ≤ a .x = omega arith in (
-      omega (arith, front .ensures .0, decimal-length (a .x) more),
-      decimal-next (a .x) (c .digit2 .result) (front .result) (a .out .now) more (c .digit2 .ensures) (front .ensures .0)
-          (omega arith) (front .ensures .1),
+      omega (arith, front .ensures .0, decimal-length (a .x) more (d .ensures .0)),
+      decimal-next (a .x) (d .result .quotient) (d .result .remainder) (c .digit2 .result) (front .result) (a .out .now) more
+          (d .ensures .0) (d .ensures .1) (c .digit2 .ensures) (front .ensures .0) (omega arith) (front .ensures .1),
     )
 
 pub +decimal-into-spec : {M : Type 1} → statement M
 +decimal-into-spec = close μ-decimal-into λ t. decimal-into-lts.spec (
   digit-reads.Asked,
   digit-reads.Learnt,
+  divide-reads.Asked,
+  divide-reads.Learnt,
   decimal-into-below t,
   decimal-into.Post,
 )
@@ -140,6 +174,7 @@ pub +decimal-into-spec : {M : Type 1} → statement M
     (decimal-into-slice-write-out t)
     (decimal-into-same-length t)
     (decimal-into-returns t)
+    (decimal-into-divide-requires t)
     (decimal-into-decimal-into-requires t)
     (decimal-into-digit-requires-2 t)
     (decimal-into-slice-write-out-2 t)
