@@ -4,7 +4,7 @@ ghost use Rattle.questions.specs.Questions.{firstNo};
 ghost use Rattle.milebadger.specs.Calls.{solveQuestions};
 use asking::are_unknowns;
 use questions::ask;
-use residue::division::divide_length;
+use residue::division::divide_wide;
 use system::limits::EQUATIONS;
 use system::residues::all_below;
 
@@ -17,9 +17,9 @@ pub(crate) fn refusal(m: u32, n: u32, lines: &[u32]) -> u32
     let width = unknowns + 1;
     let modulus = ask(0, 2, 2 <= m);
     let allowed = ask(modulus, 3, are_unknowns(unknowns));
-    let equations = divide_length(lines.len(), width);
+    let equations = divide_wide(lines.len() as u64, width as u64);
     let whole = ask(allowed, 1, equations.remainder == 0);
-    let few = ask(whole, 5, equations.quotient <= EQUATIONS);
+    let few = ask(whole, 5, equations.quotient <= EQUATIONS as u64);
     if few != 0 {
         return few;
     }

@@ -1,5 +1,5 @@
-// Quotient and remainder of one pair from a single division, for each width of numbers: the remainder is what is left after the
-// quotient times the divisor is taken off. Wherever both are wanted, they come from here.
+// Quotient and remainder of one pair from a single division, of 32 bits and of 64: the remainder is what is left after the quotient
+// times the divisor is taken off. Wherever both are wanted, they come from here.
 ghost use mathlib.Core.Path.{_≡_};
 ghost use Prim.Native.Nat.{_/_, _%_, _<_};
 
@@ -32,24 +32,6 @@ pub fn divide_wide(x: u64, y: u64) -> WideDivision
     let quotient = x / y;
     let remainder = x - quotient * y;
     WideDivision {
-        quotient: quotient,
-        remainder: remainder,
-    }
-}
-
-pub struct LengthDivision {
-    pub quotient: usize,
-    pub remainder: usize,
-}
-
-// Of lengths and of places.
-pub fn divide_length(length: usize, width: usize) -> LengthDivision
-    requires { ⌜ 0 < width ⌝ }
-    ensures { λ r. ⌜ (r .quotient ≡ length / width) × (r .remainder ≡ length % width) ⌝ }
-{
-    let quotient = length / width;
-    let remainder = length - quotient * width;
-    LengthDivision {
         quotient: quotient,
         remainder: remainder,
     }

@@ -5,7 +5,7 @@ ghost use lib.ListN.{length};
 ghost use Rattle.residue.specs.Negative.{negative};
 ghost use Rattle.safe.specs.Model.Lines.{lineOf, linesFrom};
 ghost use Rattle.safe.specs.Model.Lines.{coefficient as coefficientOf};
-use residue::division::divide_length;
+use residue::division::divide_wide;
 use residue::modular::negate;
 
 // A turn counts once for each lock in its row and column, its own lock included. Row and column of a place are its quotient and its
@@ -14,8 +14,8 @@ fn coefficient(columns: usize, i: usize, p: usize) -> u32
     requires { ⌜ 0 < columns ⌝ }
     ensures { λ r. ⌜ r ≡ coefficientOf columns i p ⌝ }
 {
-    let lock = divide_length(i, columns);
-    let turn = divide_length(p, columns);
+    let lock = divide_wide(i as u64, columns as u64);
+    let turn = divide_wide(p as u64, columns as u64);
     let in_row = lock.quotient == turn.quotient;
     let in_column = lock.remainder == turn.remainder;
     (in_row || in_column) as u32

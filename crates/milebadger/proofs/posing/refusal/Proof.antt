@@ -47,8 +47,8 @@ are-unknowns-requires c κs = search needs
 ask-requires-2 : tie.Need-ask-requires-2
 ask-requires-2 c κs = search needs
 
-divide-length-requires : tie.Need-divide-length-requires
-divide-length-requires c κs = search needs
+divide-wide-requires : tie.Need-divide-wide-requires
+divide-wide-requires c κs = search needs
 
 ask-requires-3 : tie.Need-ask-requires-3
 ask-requires-3 c κs = search needs
@@ -62,7 +62,7 @@ returns c =
     let d = b .before .before .before .before in
     let a = d .before .before .before .before .before .args in
     asked-enough
-    (lines-asked (a .m) (a .n) (now (a .lines)) (number-largest (a .m) (omega arith)) (d .before .before .are-unknowns .ensures) (d .divide-length .ensures)
+    (lines-asked (a .m) (a .n) (now (a .lines)) (number-largest (a .m) (omega arith)) (d .before .before .are-unknowns .ensures) (d .divide-wide .ensures)
     (d .before .before .before .ask .ensures) (d .before .ask2 .ensures) (b .before .before .ask3 .ensures) (b .ask4 .ensures))
     (asks 6 (allBelow (a .m) (now (a .lines))) ∷ []) (c .if1 .taken)
 
@@ -78,7 +78,7 @@ returns-2 c =
     let d = b .before .before .before .before in
     let a = d .before .before .before .before .before .args in
     then-asked
-    (lines-asked (a .m) (a .n) (now (a .lines)) (number-largest (a .m) (omega arith)) (d .before .before .are-unknowns .ensures) (d .divide-length .ensures)
+    (lines-asked (a .m) (a .n) (now (a .lines)) (number-largest (a .m) (omega arith)) (d .before .before .are-unknowns .ensures) (d .divide-wide .ensures)
     (d .before .before .before .ask .ensures) (d .before .ask2 .ensures) (b .before .before .ask3 .ensures) (b .ask4 .ensures))
     6 tt (allBelow (a .m) (now (a .lines))) (λ yes. c .before .all-below .ensures)
     (c .ask5 .ensures ∙ ap (λ (k : ℕ). thenAsks k 6 (c .before .all-below .result)) (sym (c .before .before .if1 .left))) .is
@@ -91,7 +91,7 @@ refusal-spec =
     ask-requires
     are-unknowns-requires
     ask-requires-2
-    divide-length-requires
+    divide-wide-requires
     ask-requires-3
     ask-requires-4
     returns

@@ -18,19 +18,19 @@ counts-column b c result h e = rw (e, h) (byte c)
     byte true = refl
     byte false = refl
 
-divide-length-requires : tie.Need-divide-length-requires
-divide-length-requires c κs = search needs
+divide-wide-requires : tie.Need-divide-wide-requires
+divide-wide-requires c κs = search needs
 
-divide-length-requires-2 : tie.Need-divide-length-requires-2
-divide-length-requires-2 c κs = search needs
+divide-wide-requires-2 : tie.Need-divide-wide-requires-2
+divide-wide-requires-2 c κs = search needs
 
 cast-result : tie.Need-cast-result
 cast-result c = search needs
 
 returns : tie.Need-returns
 returns c =
-    let lock = c .before .before .divide-length in
-    let turn = c .before .divide-length2 in
+    let lock = c .before .before .divide-wide in
+    let turn = c .before .divide-wide2 in
     let b = eqb (lock .result .quotient) (turn .result .quotient) in
     let d = eqb (lock .result .remainder) (turn .result .remainder) in
     rw (sym (lock .ensures .0), sym (lock .ensures .1), sym (turn .ensures .0), sym (turn .ensures .1)) (
@@ -39,4 +39,4 @@ returns c =
 
 pub coefficient-spec : {M : Type 1} → statement M
 coefficient-spec =
-    tie.close (tie.spec divide-length-requires divide-length-requires-2 cast-result returns)
+    tie.close (tie.spec divide-wide-requires divide-wide-requires-2 cast-result returns)

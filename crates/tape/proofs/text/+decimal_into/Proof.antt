@@ -25,44 +25,27 @@ decimal-into-at t = and 1 decimal-into-kinds.ps (is 1 decimal-into-kinds.ps μ-d
 abbrev decimal-into-below : ℕ → In 1 decimal-into-kinds.ps
 decimal-into-below t = and 1 decimal-into-kinds.ps (falls 1 decimal-into-kinds.ps _<_ μ-decimal-into t) decimal-into.Pre
 
-decimal-into-digit-requires : (t : ℕ) → decimal-into-lts.Need-digit-requires (
+-- what is known of the functions that it calls, itself with a smaller number too
+abbrev decimal-into-claims : ℕ → decimal-into-lts.Claims
+decimal-into-claims t = (
   digit-reads.Asked,
   digit-reads.Learnt,
   divide-reads.Asked,
   divide-reads.Learnt,
   decimal-into-below t,
   decimal-into.Post,
-) (decimal-into-at t) decimal-into.Post
+)
+
+decimal-into-digit-requires : (t : ℕ) → decimal-into-lts.Need-digit-requires (decimal-into-claims t) (decimal-into-at t) decimal-into.Post
 decimal-into-digit-requires t c κs = search needs
 
-decimal-into-slice-write-out : (t : ℕ) → decimal-into-lts.Need-slice-write-out (
-  digit-reads.Asked,
-  digit-reads.Learnt,
-  divide-reads.Asked,
-  divide-reads.Learnt,
-  decimal-into-below t,
-  decimal-into.Post,
-) (decimal-into-at t) decimal-into.Post
+decimal-into-slice-write-out : (t : ℕ) → decimal-into-lts.Need-slice-write-out (decimal-into-claims t) (decimal-into-at t) decimal-into.Post
 decimal-into-slice-write-out t c = omega (arith, decimal-some (c .before .before .before .args .x))
 
-decimal-into-same-length : (t : ℕ) → decimal-into-lts.Need-same-length (
-  digit-reads.Asked,
-  digit-reads.Learnt,
-  divide-reads.Asked,
-  divide-reads.Learnt,
-  decimal-into-below t,
-  decimal-into.Post,
-) (decimal-into-at t) decimal-into.Post
+decimal-into-same-length : (t : ℕ) → decimal-into-lts.Need-same-length (decimal-into-claims t) (decimal-into-at t) decimal-into.Post
 decimal-into-same-length t c = search needs
 
-decimal-into-returns : (t : ℕ) → decimal-into-lts.Need-returns (
-  digit-reads.Asked,
-  digit-reads.Learnt,
-  divide-reads.Asked,
-  divide-reads.Learnt,
-  decimal-into-below t,
-  decimal-into.Post,
-) (decimal-into-at t) decimal-into.Post
+decimal-into-returns : (t : ℕ) → decimal-into-lts.Need-returns (decimal-into-claims t) (decimal-into-at t) decimal-into.Post
 decimal-into-returns t c =
     let a = c .before .before .before .args in
     let some = decimal-some (a .x) in (
@@ -70,45 +53,17 @@ decimal-into-returns t c =
       decimal-first (a .x) (c .digit .result) (a .out .now) (omega arith) (c .digit .ensures) (omega arith),
     )
 
-decimal-into-divide-requires : (t : ℕ) → decimal-into-lts.Need-divide-requires (
-  digit-reads.Asked,
-  digit-reads.Learnt,
-  divide-reads.Asked,
-  divide-reads.Learnt,
-  decimal-into-below t,
-  decimal-into.Post,
-) (decimal-into-at t) decimal-into.Post
+decimal-into-divide-requires : (t : ℕ) → decimal-into-lts.Need-divide-requires (decimal-into-claims t) (decimal-into-at t) decimal-into.Post
 decimal-into-divide-requires t c κs = search needs
 
-decimal-into-decimal-into-requires : (t : ℕ) → decimal-into-lts.Need-decimal-into-requires (
-  digit-reads.Asked,
-  digit-reads.Learnt,
-  divide-reads.Asked,
-  divide-reads.Learnt,
-  decimal-into-below t,
-  decimal-into.Post,
-) (decimal-into-at t) decimal-into.Post
+decimal-into-decimal-into-requires : (t : ℕ) → decimal-into-lts.Need-decimal-into-requires (decimal-into-claims t) (decimal-into-at t) decimal-into.Post
 decimal-into-decimal-into-requires t c κs =
     (search needs, omega (arith, decimal-length (c .before .before .before .before .args .x) (omega arith) (c .before .divide .ensures .0)))
 
-decimal-into-digit-requires-2 : (t : ℕ) → decimal-into-lts.Need-digit-requires-2 (
-  digit-reads.Asked,
-  digit-reads.Learnt,
-  divide-reads.Asked,
-  divide-reads.Learnt,
-  decimal-into-below t,
-  decimal-into.Post,
-) (decimal-into-at t) decimal-into.Post
+decimal-into-digit-requires-2 : (t : ℕ) → decimal-into-lts.Need-digit-requires-2 (decimal-into-claims t) (decimal-into-at t) decimal-into.Post
 decimal-into-digit-requires-2 t c κs = search needs
 
-decimal-into-slice-write-out-2 : (t : ℕ) → decimal-into-lts.Need-slice-write-out-2 (
-  digit-reads.Asked,
-  digit-reads.Learnt,
-  divide-reads.Asked,
-  divide-reads.Learnt,
-  decimal-into-below t,
-  decimal-into.Post,
-) (decimal-into-at t) decimal-into.Post
+decimal-into-slice-write-out-2 : (t : ℕ) → decimal-into-lts.Need-slice-write-out-2 (decimal-into-claims t) (decimal-into-at t) decimal-into.Post
 decimal-into-slice-write-out-2 t c =
     omega (
       arith,
@@ -116,14 +71,7 @@ decimal-into-slice-write-out-2 t c =
       decimal-length (c .before .before .before .before .before .before .before .before .args .x) (omega arith) (c .before .before .before .before .before .divide .ensures .0),
     )
 
-decimal-into-add-result : (t : ℕ) → decimal-into-lts.Need-add-result (
-  digit-reads.Asked,
-  digit-reads.Learnt,
-  divide-reads.Asked,
-  divide-reads.Learnt,
-  decimal-into-below t,
-  decimal-into.Post,
-) (decimal-into-at t) decimal-into.Post
+decimal-into-add-result : (t : ℕ) → decimal-into-lts.Need-add-result (decimal-into-claims t) (decimal-into-at t) decimal-into.Post
 decimal-into-add-result t c =
     omega (
       arith,
@@ -131,24 +79,10 @@ decimal-into-add-result t c =
       decimal-length (c .before .before .before .before .before .before .before .before .args .x) (omega arith) (c .before .before .before .before .before .divide .ensures .0),
     )
 
-decimal-into-same-length-2 : (t : ℕ) → decimal-into-lts.Need-same-length-2 (
-  digit-reads.Asked,
-  digit-reads.Learnt,
-  divide-reads.Asked,
-  divide-reads.Learnt,
-  decimal-into-below t,
-  decimal-into.Post,
-) (decimal-into-at t) decimal-into.Post
+decimal-into-same-length-2 : (t : ℕ) → decimal-into-lts.Need-same-length-2 (decimal-into-claims t) (decimal-into-at t) decimal-into.Post
 decimal-into-same-length-2 t c = search needs
 
-decimal-into-returns-2 : (t : ℕ) → decimal-into-lts.Need-returns-2 (
-  digit-reads.Asked,
-  digit-reads.Learnt,
-  divide-reads.Asked,
-  divide-reads.Learnt,
-  decimal-into-below t,
-  decimal-into.Post,
-) (decimal-into-at t) decimal-into.Post
+decimal-into-returns-2 : (t : ℕ) → decimal-into-lts.Need-returns-2 (decimal-into-claims t) (decimal-into-at t) decimal-into.Post
 decimal-into-returns-2 t c =
     let d = c .before .before .before .before .before .divide in
     let a = c .before .before .before .before .before .before .before .before .args in
@@ -160,14 +94,7 @@ decimal-into-returns-2 t c =
     )
 
 pub +decimal-into-spec : {M : Type 1} → statement M
-+decimal-into-spec = close μ-decimal-into λ t. decimal-into-lts.spec (
-  digit-reads.Asked,
-  digit-reads.Learnt,
-  divide-reads.Asked,
-  divide-reads.Learnt,
-  decimal-into-below t,
-  decimal-into.Post,
-)
++decimal-into-spec = close μ-decimal-into λ t. decimal-into-lts.spec (decimal-into-claims t)
     (decimal-into-at t)
     decimal-into.Post
     (decimal-into-digit-requires t)
