@@ -11,7 +11,7 @@ use random::Random;
 
 extern "C" {
     fn milebadger_gcd(a: u32, b: u32, out: *mut u32, out_len: usize) -> i64;
-    fn milebadger_congruence(a: u32, b: u32, m: u32, out: *mut u32, out_len: usize) -> i64;
+    fn milebadger_congruence(a: i32, b: i32, m: u32, out: *mut u32, out_len: usize) -> i64;
 }
 
 const CASES: [&str; 4] = ["gcd-16-bits", "gcd-32-bits", "gcd-longest", "congruence-16-bits"];
@@ -58,7 +58,7 @@ impl Chains {
         let [a, b, m] = self.numbers[i % 64];
         unsafe {
             if self.congruence {
-                milebadger_congruence(a, b, m, self.out.as_mut_ptr(), 2)
+                milebadger_congruence(a as i32, b as i32, m, self.out.as_mut_ptr(), 2)
             } else {
                 milebadger_gcd(a, b, self.out.as_mut_ptr(), 2)
             }

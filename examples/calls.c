@@ -14,12 +14,12 @@ static void show_divisor(uint32_t a, uint32_t b)
 }
 
 /* Every solution of a·t = b mod m, by milebadger_congruence. */
-static void show_solutions(uint32_t a, uint32_t b, uint32_t m)
+static void show_solutions(int32_t a, int32_t b, uint32_t m)
 {
     uint32_t found[2];
     int64_t result = milebadger_congruence(a, b, m, found, 2);
 
-    printf("%" PRIu32 " t = %" PRIu32 " mod %" PRIu32 ":", a, b, m);
+    printf("%" PRId32 " t = %" PRId32 " mod %" PRIu32 ":", a, b, m);
     if (result < 0) {
         printf(" refused %" PRId64 "\n", -result);
     } else if (result == 0) {
@@ -90,10 +90,10 @@ int main(void)
 
     show_solutions(4, 8, 12);
     show_solutions(4, 6, 12);
-    show_solutions(65534, 1, 65535);
+    show_solutions(16, -4, 12); /* mod 12 that is 4 t = 8 */
+    show_solutions(-1, 1, 65535);
 
     show_solutions(5, 1, 65536);
-    show_solutions(12, 1, 12);
 
     show_answer(12, (const uint32_t[]){2, 3, 5, 4, 6, 10});
     show_answer(2, (const uint32_t[]){1, 1, 1, 1, 1, 0});

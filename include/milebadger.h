@@ -60,11 +60,11 @@
 extern "C" {
 #endif
 
-/* This header's version: 10,000 times its first number, 100 times its second and its third; 10000 is 1.0.0. The header
+/* This header's version: 10,000 times its first number, 100 times its second and its third; 20000 is 2.0.0. The header
  * goes with its library. As long as the first number is the same, a sheet keeps its size and the calls keep their
  * arguments; a program that loads the shared library can ask for that when it starts:
  * milebadger_version() / 10000 == MILEBADGER_VERSION / 10000. */
-#define MILEBADGER_VERSION 10100
+#define MILEBADGER_VERSION 20000
 
 /* The library's version.
  *
@@ -127,9 +127,10 @@ static inline const char *milebadger_sentence(int64_t result)
 
 /* Words: the kind in the top 4 bits, the number in the low 28. And the number of a word.
  *
- * A number below 0 or above MILEBADGER_LARGEST_NUMBER makes a word of another kind or with another number; minus 1 mod m
- * is m - 1. In C11 and later, such a constant does not compile. Numbers that are known only when the program runs are
- * not looked at, nor any in C99 and C++. Each macro evaluates its argument once, and is a constant where that is one. */
+ * Coefficients and right sides below 0 have words of their own: MILEBADGER_MINUS_RIGHT(2) is a right side of minus 2. A
+ * word's number has no sign: one below 0 or above MILEBADGER_LARGEST_NUMBER makes a word of another kind or with another
+ * number. In C11 and later, such a constant does not compile. Numbers that are known only when the program runs are not
+ * looked at, nor any in C99 and C++. Each macro evaluates its argument once, and is a constant where that is one. */
 #define MILEBADGER_MODULUS(m) MILEBADGER_WORD(1, m)
 #define MILEBADGER_UNKNOWNS(n) MILEBADGER_WORD(2, n)
 #define MILEBADGER_COEFFICIENT(a) MILEBADGER_WORD(3, a)
@@ -138,6 +139,8 @@ static inline const char *milebadger_sentence(int64_t result)
 #define MILEBADGER_ENTRY(x) MILEBADGER_WORD(6, x)
 #define MILEBADGER_STRIKE MILEBADGER_WORD(8, 0)
 #define MILEBADGER_ANSWER MILEBADGER_WORD(9, 0)
+#define MILEBADGER_MINUS_COEFFICIENT(a) MILEBADGER_WORD(10, a)
+#define MILEBADGER_MINUS_RIGHT(b) MILEBADGER_WORD(11, b)
 #define MILEBADGER_NUMBER(word) ((uint32_t)(word) & MILEBADGER_LARGEST_NUMBER)
 
 /* What is accepted, at most. Only milebadger_solve takes any modulus. */
@@ -178,12 +181,12 @@ typedef struct {
 int64_t milebadger_open(milebadger_sheet *sheet, const uint32_t *words, size_t words_len);
 
 /* Adds an equation behind those that are held, also where nothing solves them all any more. The words are a
- * COEFFICIENT(a) for each unknown, then RIGHT(b).
+ * COEFFICIENT(a) for each unknown, or MINUS_COEFFICIENT(a) where it is minus a; then RIGHT(b), or MINUS_RIGHT(b) where it
+ * is minus b. Any number of 28 bits will do: it is brought to its residue, 0 to m - 1. So minus 1 is m - 1, and m is 0.
  *
  * Asks     Opened? If not, -4.  n + 1 words, of these kinds? If not, -1.  Fewer than 16 equations held? If not, -5.
- *          All numbers below m? If not, -6.
  * Writes   the sheet.
- * Returns  how many equations are then held, 1 to 16; or -4, -1, -5, -6. */
+ * Returns  how many equations are then held, 1 to 16; or -4, -1, -5. */
 int64_t milebadger_add(milebadger_sheet *sheet, const uint32_t *words, size_t words_len);
 
 /* Adds an equation that is typed as text, such as 3*(x1 - 2*x2) + x3 = 5 - x1, behind those that are held. The unknowns'
@@ -248,7 +251,8 @@ int64_t milebadger_mark(const milebadger_sheet *sheet, const uint32_t *words, si
  *     words                               line               what the call does
  *     MODULUS(m), UNKNOWNS(n)             open m n           opens the sheet: m from 2 to 65,535, n from 1 to 16, no
  *                                                            equations
- *     n times COEFFICIENT(a), RIGHT(b)    added k            adds an equation, 16 at most; k are then held
+ *     n times COEFFICIENT(a), RIGHT(b)    added k            adds an equation, 16 at most; k are then held. For minus a
+ *                                                            MINUS_COEFFICIENT(a), for minus b MINUS_RIGHT(b)
  *     STRIKE                              struck k           takes the last equation off; k are then held
  *     ANSWER                              from .., step ..   the starting vector, then each step, n entries each;
  *                                         or none ..         or a multiplier for each equation
@@ -259,13 +263,14 @@ int64_t milebadger_mark(const milebadger_sheet *sheet, const uint32_t *words, si
  * (Each name with MILEBADGER_ in front.) Multipliers are any that refute the equations: check them, do not compare them.
  *
  * How many words a call takes, its first word alone decides, and not the kinds of those behind it: 2, n + 1, 1, 1, and
- * 1 + h times n. COEFFICIENT and HEAD take one word while the sheet is not opened, and so does a HEAD above 17 at any
- * time: the words behind it are then read as calls of their own, so that one refused claim or equation can give a line
- * for each of its words. A call that is cut short by the end of the tape is refused with 1, and so is a first word of
- * another kind, which takes one word. Bytes left over behind the last word give `refused 9` as the last line.
+ * 1 + h times n. MINUS_COEFFICIENT begins an equation as COEFFICIENT does. These two and HEAD take one word while the
+ * sheet is not opened, and so does a HEAD above 17 at any time: the words behind it are then read as calls of their own,
+ * so that one refused claim or equation can give a line for each of its words. A call that is cut short by the end of the
+ * tape is refused with 1, and so is a first word of another kind, RIGHT and MINUS_RIGHT among them, which takes one word.
+ * Bytes left over behind the last word give `refused 9` as the last line.
  *
  *     refused  1  wrong shape, or an ANSWER or STRIKE with a number other than 0   5  there are 16 equations
- *              2  m is not 2..65,535                                               6  a number is not below m
+ *              2  m is not 2..65,535                                               6  an entry is not below m
  *              3  n is not 1..16                                                   7  no equation to strike
  *              4  not opened                                                       9  1 to 3 bytes left over
  *
@@ -285,14 +290,14 @@ int64_t milebadger_tape(const uint8_t *tape, size_t tape_len, uint8_t *out, size
  * Returns  1; or -8. */
 int64_t milebadger_gcd(uint32_t a, uint32_t b, uint32_t *out, size_t out_len);
 
-/* One congruence a·t = b mod m.
+/* One congruence a·t = b mod m. Any a and b will do: they are brought to their residues. So minus 1 is m - 1.
  *
- * Asks     m from 2 to 65,535? If not, -2.  a and b below m? If not, -6.
+ * Asks     m from 2 to 65,535? If not, -2.
  * Needs    out_len at least 2 where there is a solution.
  * Writes   out[0]  the least solution t;
  *          out[1]  the spacing: the solutions are t, t + spacing, t + 2·spacing, .. below m.
- * Returns  1; 0 where no t solves it; or -2, -6, -8. */
-int64_t milebadger_congruence(uint32_t a, uint32_t b, uint32_t m, uint32_t *out, size_t out_len);
+ * Returns  1; 0 where no t solves it; or -2, -8. */
+int64_t milebadger_congruence(int32_t a, int32_t b, uint32_t m, uint32_t *out, size_t out_len);
 
 /* A list of equations over the residues 0..m-1 in n unknowns. `lines` holds a line for each equation, one behind the
  * other: its n coefficients, then its right side.

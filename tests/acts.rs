@@ -16,7 +16,8 @@ pub fn open(m: u32, n: u32) -> Act {
     Act::Open(ledger::opening(m, n))
 }
 
-pub fn add(numbers: &[u32]) -> Act {
+/// Numbers below 0 go with a minus sign.
+pub fn add(numbers: &[i64]) -> Act {
     Act::Add(ledger::equation(numbers))
 }
 
@@ -76,7 +77,7 @@ pub type Tally = BTreeSet<(&'static str, u32)>;
 pub fn all_refusals() -> Tally {
     let refusals: [(&str, &[u32]); 6] = [
         ("open", &[1, 2, 3]),
-        ("add", &[4, 1, 5, 6]),
+        ("add", &[4, 1, 5]),
         ("add text", &[4, 11, 12, 13, 5]),
         ("strike", &[4, 1, 7]),
         ("answer", &[4, 8]),
@@ -170,17 +171,19 @@ pub fn random_unsolvable(random: &mut Random) -> System {
     }
 }
 
-/// A sheet that has too many vectors to try, in most cases. Where its right sides are made to fit, it has a solution.
+/// A sheet that has too many vectors to try, in most cases. Where its right sides are made to fit, it has a solution. Half of the
+/// sheets are written with residues, the others with minus signs and numbers of any size.
 pub fn full_size_system(random: &mut Random, fits: bool) -> System {
     let m = pick(random, &[2, 3, 4, 12, 60, 30_030, 32_768, 65_521, 65_535]);
-    let n = pick(random, &[5, 8, 15, 16]);
+    let (n, signed) = (pick(random, &[5, 8, 15, 16]), chance(random, 2));
     let solution: Vec<u32> = (0..n).map(|_| random.below(m as u64) as u32).collect();
     let mut system = System { m, n, equations: vec![] };
     for _ in 0..random.below(17) {
         let mut equation: Vec<u32> = (0..n).map(|_| if chance(random, 2) { 0 } else { random.below(m as u64) as u32 }).collect();
         let right: u64 = equation.iter().zip(&solution).map(|(&a, &x)| a as u64 * x as u64).sum();
         equation.push(if fits { (right % m as u64) as u32 } else { random.below(m as u64) as u32 });
-        system.equations.push(equation);
+        let number = |x: &u32| if signed { exercises::written(random, m, *x) } else { *x as i64 };
+        system.equations.push(equation.iter().map(number).collect());
     }
     system
 }

@@ -11,12 +11,12 @@ mod spelling;
 
 use acts::{add, all_refusals, answer, answered, entering, expect, full_size_system, last, mark, open, outcomes};
 use acts::{random_act, random_system, Tally, WRONG_PLACES};
-use exercises::chance;
+use exercises::{chance, pick};
 use face::LONGEST_BLOCK;
 use ledger::{Call, Ledger};
 use random::Random;
 use reference::System;
-use sheet::{Act, Outcome};
+use sheet::{Act, Desk, Outcome};
 
 fn random_acts(random: &mut Random, count: usize) -> Vec<Act> {
     let filling = chance(random, 4);
@@ -41,13 +41,28 @@ fn random_acts(random: &mut Random, count: usize) -> Vec<Act> {
 #[test]
 fn random_lists_of_calls_do_what_the_paper_says_and_every_call_meets_its_refusals() {
     let mut random = Random::new();
-    let mut tally = Tally::new();
+    let (mut tally, mut signs) = (Tally::new(), 0);
     for _ in 0..10_000 {
         let count = 1 + random.below(60) as usize;
         let acts = random_acts(&mut random, count);
+        let added = acts.iter().filter_map(|act| if let Act::Add(words) = act { Some(words) } else { None });
+        signs += added.flatten().filter(|&&word| ledger::whole(word) < 0).count();
         expect(&acts, random.seed, &mut tally);
     }
+    assert!(signs > 10_000, "{signs} minus signs");
     assert_eq!(tally, all_refusals(), "refusals seen, and refusals to be seen");
+}
+
+/// In each place of these words, each kind that is not among the allowed ones is refused with 1, and those are accepted.
+fn expect_kinds(words: &[u32], act: impl Fn(&[u32]) -> Act, allowed: &[Vec<u32>]) {
+    for place in 0..words.len() {
+        for kind in 0..16 {
+            let mut words = words.to_vec();
+            words[place] = ledger::word(kind, ledger::number(words[place]));
+            let refused = last(&[open(5, 2), act(&words)]) == Outcome::Refused(1);
+            assert_eq!(refused, !allowed[place].contains(&kind), "{words:x?}");
+        }
+    }
 }
 
 #[test]
@@ -73,11 +88,30 @@ fn misshapen_claims_and_equations_are_refused_with_1() {
         assert_eq!(last(&[open(5, 2), Act::Mark(words.clone())]), Outcome::Refused(1), "{words:x?}");
     }
     let (a, b) = (word(ledger::COEFFICIENT, 1), word(ledger::RIGHT, 1));
-    let equations: [Vec<u32>; 8] =
-        [vec![], vec![a], vec![b], vec![a, b], vec![a, a, a], vec![a, b, b], vec![a, a, a, b], vec![a, a, b, b]];
+    let (minus_a, minus_b) = (word(ledger::MINUS_COEFFICIENT, 1), word(ledger::MINUS_RIGHT, 1));
+    let equations: [Vec<u32>; 16] = [
+        vec![],
+        vec![a],
+        vec![b],
+        vec![a, b],
+        vec![a, a, a],
+        vec![a, b, b],
+        vec![a, a, a, b],
+        vec![a, a, b, b],
+        vec![minus_a],
+        vec![minus_b],
+        vec![minus_a, minus_b],
+        vec![minus_a, minus_a, minus_a],
+        vec![minus_a, minus_b, minus_b],
+        vec![minus_a, minus_a, minus_a, minus_b],
+        vec![minus_a, minus_a, minus_b, minus_b],
+        [vec![minus_a; 17], vec![minus_b]].concat(),
+    ];
     for words in equations {
         assert_eq!(last(&[open(5, 2), Act::Add(words.clone())]), Outcome::Refused(1), "{words:x?}");
     }
+    expect_kinds(&[a, a, b], |words| Act::Add(words.to_vec()), &[vec![3, 10], vec![3, 10], vec![4, 11]]);
+    expect_kinds(&[head(1), entry(1), entry(1)], |words| Act::Mark(words.to_vec()), &[vec![5], vec![6], vec![6]]);
     let (m, n) = (word(ledger::MODULUS, 5), word(ledger::UNKNOWNS, 2));
     for words in [vec![], vec![m], vec![n, m], vec![m, n, n], vec![m, m], vec![n, n]] {
         assert_eq!(last(&[Act::Open(words.clone())]), Outcome::Refused(1), "{words:x?}");
@@ -87,8 +121,6 @@ fn misshapen_claims_and_equations_are_refused_with_1() {
 #[test]
 fn numbers_are_compared_with_all_their_28_bits() {
     for number in [5, 6, 65_536, 65_537, 1 << 24, (1 << 27) + 1, (1 << 28) - 1] {
-        assert_eq!(last(&[open(5, 1), add(&[number, 1])]), Outcome::Refused(6), "{number}");
-        assert_eq!(last(&[open(5, 1), add(&[1, number])]), Outcome::Refused(6), "{number}");
         assert_eq!(last(&[open(5, 1), mark(&[vec![number]])]), Outcome::Refused(6), "{number}");
         assert_eq!(last(&[open(5, 1), mark(&[vec![0], vec![number]])]), Outcome::Refused(6), "{number}");
     }
@@ -101,8 +133,79 @@ fn numbers_are_compared_with_all_their_28_bits() {
     }
 }
 
+/// The starting vector that the sheet's answer has after an equation in one unknown mod m with the coefficient 1.
+fn start_of(m: u32, right: u32) -> Vec<u32> {
+    let acts = [open(m, 1), Act::Add(vec![ledger::word(ledger::COEFFICIENT, 1), right]), answer(2)];
+    let numbers = answered(expect(&acts, 0, &mut Tally::new()).last().unwrap());
+    assert_eq!(numbers[0], 1, "a vector alone");
+    numbers[1..].to_vec()
+}
+
 #[test]
-fn a_full_sheet_refuses_with_5_after_shape_and_before_numbers() {
+fn numbers_of_equations_are_brought_to_their_residues_with_all_their_28_bits() {
+    // residues worked out by hand, of the number and of minus the number
+    for (m, number, residue, of_minus) in [
+        (65_535, 268_435_455, 4_095, 61_440),
+        (65_535, 65_534, 65_534, 1),
+        (65_535, 65_535, 0, 0),
+        (65_535, 65_536, 1, 65_534),
+        (65_535, 1, 1, 65_534),
+        (65_535, 0, 0, 0),
+        (65_535, 1 << 27, 2_048, 63_487),
+        (65_521, 1 << 16, 15, 65_506),
+        (5, 1 << 24, 1, 4),
+        (5, (1 << 28) - 1, 0, 0),
+        (3, (1 << 28) - 1, 0, 0),
+        (3, (1 << 27) + 1, 0, 0),
+        (3, 1 << 27, 2, 1),
+        (2, 1, 1, 1),
+        (2, 2, 0, 0),
+        (2, (1 << 28) - 1, 1, 1),
+        (2, 1 << 27, 0, 0),
+    ] {
+        assert_eq!(start_of(m, ledger::word(ledger::RIGHT, number)), [residue], "{number} mod {m}");
+        assert_eq!(start_of(m, ledger::word(ledger::MINUS_RIGHT, number)), [of_minus], "minus {number} mod {m}");
+    }
+}
+
+/// The words of one equation in two writings: with whole numbers of any size and sign, and with their residues.
+fn in_two_writings(random: &mut Random, m: u32, n: usize) -> [Vec<u32>; 2] {
+    let residues: Vec<u32> = (0..=n).map(|_| if chance(random, 3) { 0 } else { random.below(m as u64) as u32 }).collect();
+    let numbers: Vec<i64> = residues.iter().map(|&x| exercises::written(random, m, x)).collect();
+    [ledger::equation(&numbers), ledger::equation(&residues.iter().map(|&x| x as i64).collect::<Vec<i64>>())]
+}
+
+#[test]
+fn an_equation_with_signs_and_large_numbers_leaves_the_same_sheet_as_one_with_residues() {
+    let mut random = Random::new();
+    let mut signs = 0;
+    for round in 0..300 {
+        let (m, n) = if round % 3 == 0 {
+            (pick(&mut random, &[2, 12, 32_768, 65_521, 65_535]), pick(&mut random, &[1, 8, 16]))
+        } else {
+            exercises::small_shape(&mut random)
+        };
+        let (mut one, mut other) = (Desk::fresh(), Desk::fresh());
+        for desk in [&mut one, &mut other] {
+            assert_eq!(desk.act(&open(m, n)).unwrap().outcome, Outcome::Holds(0));
+        }
+        for held in 1..=1 + random.below(16) as usize {
+            let [signed, plain] = in_two_writings(&mut random, m, n as usize);
+            signs += signed.iter().filter(|&&word| ledger::whole(word) < 0).count();
+            for (desk, words) in [(&mut one, signed), (&mut other, plain)] {
+                let reply = desk.act(&Act::Add(words.clone())).unwrap();
+                assert_eq!(reply.outcome, Outcome::Holds(held), "{words:x?} mod {m} (seed {})", random.seed);
+            }
+            assert_eq!(one.numbers(), other.numbers(), "mod {m} (seed {})", random.seed);
+            let answers = [&mut one, &mut other].map(|desk| desk.act(&answer(LONGEST_BLOCK)).unwrap());
+            assert_eq!(answers[0], answers[1], "mod {m} (seed {})", random.seed);
+        }
+    }
+    assert!(signs > 5_000, "{signs} minus signs");
+}
+
+#[test]
+fn a_full_sheet_refuses_with_5_after_shape() {
     let mut acts = vec![open(3, 1)];
     acts.extend((0..16).map(|_| add(&[1, 2])));
     assert_eq!(last(&acts), Outcome::Holds(16));
@@ -110,6 +213,12 @@ fn a_full_sheet_refuses_with_5_after_shape_and_before_numbers() {
         (ledger::equation(&[1, 2]), 5),
         (ledger::equation(&[3, 2]), 5),
         (ledger::equation(&[1, 3]), 5),
+        (ledger::equation(&[-1, 2]), 5),
+        (ledger::equation(&[-1, -ledger::LARGEST]), 5),
+        (ledger::equation(&[1, -2]), 5),
+        (ledger::equation(&[-1, 1, 2]), 1),
+        (ledger::equation(&[-1]), 1),
+        (vec![ledger::word(ledger::MINUS_COEFFICIENT, 1)], 1),
         (ledger::equation(&[1, 1, 2]), 1),
         (ledger::equation(&[2]), 1),
         (vec![], 1),
@@ -164,9 +273,9 @@ fn strikes_bring_back_every_earlier_answer() {
         let mut system = System { m, n: n as usize, equations: vec![] };
         let mut acts = vec![open(m, n), answer(LONGEST_BLOCK)];
         for _ in 0..16 {
-            let words = (0..=n).map(|_| random.below(m as u64) as u32).collect::<Vec<u32>>();
-            acts.extend([add(&words), answer(LONGEST_BLOCK)]);
-            system.equations.push(words);
+            let numbers = (0..=n).map(|_| exercises::any_whole(&mut random, m)).collect::<Vec<i64>>();
+            acts.extend([add(&numbers), answer(LONGEST_BLOCK)]);
+            system.equations.push(numbers);
         }
         for _ in 0..16 {
             acts.extend([Act::Strike(0), answer(LONGEST_BLOCK)]);

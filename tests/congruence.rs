@@ -1,4 +1,4 @@
-//! milebadger_congruence against trying every t.
+//! milebadger_congruence against trying every t, with signed a and b.
 mod face;
 mod random;
 mod reference;
@@ -16,7 +16,7 @@ fn reply(answer: &Congruence, len: usize) -> Reply {
     }
 }
 
-fn expect(a: u32, b: u32, m: u32, len: usize, seed: u64) {
+fn expect(a: i32, b: i32, m: u32, len: usize, seed: u64) {
     let answer = reference::congruence(a, b, m);
     let (found, expected) = (face::congruence(a, b, m, len), reply(&answer, len));
     assert!(found == expected, "{a} t = {b} mod {m} into {len}: {found:?} is not {expected:?} (seed {seed})");
@@ -25,8 +25,20 @@ fn expect(a: u32, b: u32, m: u32, len: usize, seed: u64) {
 #[test]
 fn every_small_congruence_gets_the_least_solution_and_the_spacing() {
     for m in 0..=60 {
-        for a in 0..=m + 2 {
-            for b in 0..=m + 2 {
+        let most = m as i32 + 2;
+        for a in -most..=most {
+            for b in -most..=most {
+                expect(a, b, m, 2, 0);
+            }
+        }
+    }
+}
+
+#[test]
+fn all_pairs_of_numbers_of_8_bits_get_theirs() {
+    for m in [2, 3, 4, 5, 6, 7, 8, 9, 12, 16, 30, 60, 127, 128, 129, 255, 256, 257] {
+        for a in -128..=127 {
+            for b in -128..=127 {
                 expect(a, b, m, 2, 0);
             }
         }
@@ -38,8 +50,9 @@ fn random_congruences_get_theirs() {
     let mut random = Random::new();
     for _ in 0..1_000 {
         let m = 2 + random.below(65_534);
-        let (a, b) = (random.below(m), random.below(m));
-        expect(a as u32, b as u32, m as u32, 2, random.seed);
+        let (a, b) = (random.below(m) as i32, random.below(m) as i32);
+        expect(a, b, m as u32, 2, random.seed);
+        expect(random.any_length() as i32, random.any_length() as i32, m as u32, 2, random.seed);
     }
 }
 
@@ -51,16 +64,26 @@ fn congruences_with_a_large_common_factor_get_theirs() {
         let m = factor * (1 + random.below(65_535 / factor));
         let a = factor * random.below(m / factor);
         let b = factor * random.below(m / factor) + (random.below(4) == 0) as u64;
-        expect(a as u32, b as u32, m as u32, 2, random.seed);
+        // and the same numbers some multiples of m away, on either side of 0
+        let (a, b, m) = (a as i32, b as i32, m as i32);
+        let [above, below] = [random.below(20_000) as i32 * m, -(random.below(20_000) as i32) * m];
+        for (a, b) in [(a, b), (a + above, b + below), (-a + below, b + above), (-a, -b)] {
+            expect(a, b, m as u32, 2, random.seed);
+        }
     }
 }
 
+/// The largest number of a word.
+const LARGEST: i32 = (1 << 28) - 1;
+
 #[test]
 fn boundary_numbers_get_their_solutions_or_their_refusal() {
-    for m in [0, 1, 2, 3, 4, 65_520, 65_521, 65_534, 65_535, 65_536, 1 << 31, u32::MAX] {
-        let around = [0, 1, 2, m / 2, m.wrapping_sub(2), m.wrapping_sub(1), m, m.wrapping_add(1), u32::MAX];
-        for a in around {
-            for b in around {
+    for m in [0, 1, 2, 3, 4, 6, 12, 65_520, 65_521, 65_534, 65_535, 65_536, 1 << 31, u32::MAX] {
+        let size = m as i32 % (1 << 17);
+        let around = [0, 1, 2, size / 2, size - 2, size - 1, size, size + 1, 2 * size, LARGEST, LARGEST + 1, i32::MAX];
+        let around = around.iter().flat_map(|&x| [x, -x]).chain([i32::MIN]).collect::<Vec<i32>>();
+        for &a in &around {
+            for &b in &around {
                 expect(a, b, m, 2, 0);
             }
         }
@@ -71,8 +94,9 @@ fn boundary_numbers_get_their_solutions_or_their_refusal() {
 fn any_three_numbers_get_an_answer() {
     let mut random = Random::new();
     for _ in 0..20_000 {
-        let (a, b, m) = (random.any_length(), random.any_length(), random.any_length() >> 16);
+        let (a, b, m) = (random.any_length() as i32, random.any_length() as i32, random.any_length() >> 16);
         expect(a, b, m, 2, random.seed);
+        expect(a.wrapping_neg(), b, m, 2, random.seed);
     }
 }
 
@@ -83,30 +107,60 @@ fn the_examples_of_the_paper_come_out() {
     assert_eq!(face::congruence(65_534, 1, 65_535, 2), face::writing(1, &[65_534, 65_535], 2));
     assert_eq!(face::congruence(0, 0, 1, 2), face::silent(-2, 2));
     assert_eq!(face::congruence(0, 0, 65_536, 2), face::silent(-2, 2));
+    assert_eq!(face::congruence(-1, 1, 65_535, 2), face::writing(1, &[65_534, 65_535], 2));
+    // the least solution of t = b is the residue of b
+    for (b, m, residue) in [
+        (LARGEST, 65_535, 4_095),
+        (-LARGEST, 65_535, 61_440),
+        (i32::MIN, 65_535, 32_767),
+        (i32::MAX, 65_535, 32_767),
+        (-1, 65_535, 65_534),
+        (0, 65_535, 0),
+        (-1, 2, 1),
+        (i32::MIN, 2, 0),
+        (i32::MIN, 3, 1),
+        (i32::MAX, 3, 1),
+    ] {
+        assert_eq!(face::congruence(1, b, m, 2), face::writing(1, &[residue, m], 2), "{b} mod {m}");
+    }
+    // 4·t = 8 once more, and 4·t = 6
+    for (a, b) in [(-4, -8), (-8, 8), (16, -4), (4, 20), (-20, -40)] {
+        assert_eq!(face::congruence(a, b, 12, 2), face::writing(1, &[2, 3], 2), "{a} t = {b}");
+    }
+    for (a, b) in [(-4, -6), (-8, 6), (16, -6), (i32::MIN, 6)] {
+        assert_eq!(face::congruence(a, b, 12, 2), face::silent(0, 2), "{a} t = {b}");
+    }
 }
 
 #[test]
-fn the_modulus_is_asked_before_the_numbers() {
-    assert_eq!(face::congruence(9, 9, 1, 2), face::silent(-2, 2));
-    assert_eq!(face::congruence(70_000, 0, 65_536, 2), face::silent(-2, 2));
-    assert_eq!(face::congruence(70_000, 0, 65_535, 2), face::silent(-6, 2));
-    assert_eq!(face::congruence(0, 65_535, 65_535, 2), face::silent(-6, 2));
+fn the_modulus_alone_is_asked_for() {
+    for (a, b) in [(9, 9), (-9, 9), (70_000, 0), (0, 65_535), (i32::MIN, i32::MAX)] {
+        for m in [0, 1, 65_536, 1 << 31, u32::MAX] {
+            assert_eq!(face::congruence(a, b, m, 2), face::silent(-2, 2), "{a} t = {b} mod {m}");
+        }
+    }
+    // 70,000 is 4,465 mod 65,535, and their divisor is 5
+    assert_eq!(face::congruence(70_000, 0, 65_535, 2), face::writing(1, &[0, 13_107], 2));
+    assert_eq!(face::congruence(0, 65_535, 65_535, 2), face::writing(1, &[0, 1], 2));
+    assert_eq!(face::congruence(12, 1, 12, 2), face::silent(0, 2));
 }
 
 #[test]
 fn the_length_of_the_memory_is_asked_last_and_only_where_numbers_are_written() {
     for len in 0..2 {
-        assert_eq!(face::congruence(4, 8, 1, len), face::silent(-2, len));
-        assert_eq!(face::congruence(12, 8, 12, len), face::silent(-6, len));
-        assert_eq!(face::congruence(4, 6, 12, len), face::silent(0, len));
-        assert_eq!(face::congruence(4, 8, 12, len), face::silent(-8, len));
+        for sign in [1, -1] {
+            assert_eq!(face::congruence(4 * sign, 8, 1, len), face::silent(-2, len));
+            assert_eq!(face::congruence(12 * sign, 8, 12, len), face::silent(0, len));
+            assert_eq!(face::congruence(4 * sign, 6, 12, len), face::silent(0, len));
+            assert_eq!(face::congruence(4 * sign, 8, 12, len), face::silent(-8, len));
+        }
     }
 }
 
 #[test]
 fn memory_past_the_two_numbers_keeps_its_content() {
     for len in 2..40 {
-        for (a, b, m) in [(4, 8, 12), (4, 6, 12), (4, 8, 1), (12, 8, 12)] {
+        for (a, b, m) in [(4, 8, 12), (4, 6, 12), (4, 8, 1), (12, 8, 12), (-4, 8, 12), (i32::MIN, i32::MIN, 12)] {
             expect(a, b, m, len, 0);
         }
     }

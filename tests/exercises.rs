@@ -1,7 +1,8 @@
-//! Random words for the calls on a sheet: openings, equations and claims, most of them good, the others spoiled in one place.
+//! Random words for the calls on a sheet: openings, equations and claims, most of them good, the others spoiled in one place. The
+//! numbers of equations have signs, and are residues or any that a word can have.
 #![allow(dead_code)]
 
-use crate::ledger::{self, Solved};
+use crate::ledger::{self, Solved, LARGEST};
 use crate::random::Random;
 use crate::reference::{self, Answer, System};
 
@@ -37,19 +38,68 @@ pub fn opening(random: &mut Random) -> Vec<u32> {
     sometimes_spoiled(random, words, m)
 }
 
-/// The words of an equation: any numbers below m, few of them or none that are not 0, or an earlier equation multiplied.
-pub fn equation(random: &mut Random, system: &System) -> Vec<u32> {
-    let m = system.m as u64;
-    let sparse = chance(random, 2);
-    let mut numbers: Vec<u32> =
-        (0..=system.n).map(|_| if sparse && chance(random, 2) { 0 } else { random.below(m) as u32 }).collect();
-    if !system.equations.is_empty() && chance(random, 2) {
-        let factor = random.below(m);
-        let earlier = &system.equations[random.below(system.equations.len() as u64) as usize];
-        numbers = earlier.iter().map(|&x| (x as u64 * factor % m) as u32).collect();
+/// A whole number that a word of an equation can have: small, beside m or a multiple of it, the largest, or any.
+pub fn any_whole(random: &mut Random, m: u32) -> i64 {
+    let m = m as i64;
+    let beside = random.below(3) as i64 - 1;
+    let number = match random.below(6) {
+        0 => random.below(4) as i64,
+        1 => random.below(m as u64) as i64,
+        2 => m + beside,
+        3 => m * random.below((LARGEST / m) as u64) as i64 + beside,
+        4 => LARGEST - random.below(3) as i64,
+        _ => random.below(1 << 28) as i64,
+    };
+    if chance(random, 2) {
+        -number
+    } else {
+        number
     }
-    let words = ledger::equation(&numbers);
-    sometimes_spoiled(random, words, system.m)
+}
+
+/// A whole number that a word can have and that has this residue: the residue, one beside it on either side, the least or the
+/// greatest there is, or any.
+pub fn written(random: &mut Random, m: u32, residue: u32) -> i64 {
+    let (m, residue) = (m as i64, residue as i64);
+    let (least, greatest) = (-((LARGEST + residue) / m), (LARGEST - residue) / m);
+    let any = least + random.below((greatest - least + 1) as u64) as i64;
+    residue + pick(random, &[0, -1, 1, least, greatest, any]) * m
+}
+
+/// The words with some zeros written as minus 0.
+fn with_minus_zeros(random: &mut Random, mut words: Vec<u32>) -> Vec<u32> {
+    let (right, coefficients) = words.split_last_mut().expect("an equation has a right side");
+    coefficients.iter_mut().for_each(|a| *a = if ledger::number(*a) == 0 && chance(random, 4) { MINUS_ZERO } else { *a });
+    if ledger::number(*right) == 0 && chance(random, 4) {
+        *right = MINUS_RIGHT_ZERO;
+    }
+    words
+}
+
+const MINUS_ZERO: u32 = ledger::MINUS_COEFFICIENT << 28;
+const MINUS_RIGHT_ZERO: u32 = ledger::MINUS_RIGHT << 28;
+
+/// The words of an equation: residues, or whole numbers of any size and sign; few of them or none that are not 0, or an earlier
+/// equation multiplied.
+pub fn equation(random: &mut Random, system: &System) -> Vec<u32> {
+    let m = system.m;
+    let (sparse, signed) = (chance(random, 2), chance(random, 2));
+    let mut numbers: Vec<i64> = vec![];
+    for _ in 0..=system.n {
+        let number = if signed { any_whole(random, m) } else { random.below(m as u64) as i64 };
+        numbers.push(if sparse && chance(random, 2) { 0 } else { number });
+    }
+    if !system.equations.is_empty() && chance(random, 2) {
+        let factor = random.below(m as u64) as i64;
+        let earlier = &system.equations[random.below(system.equations.len() as u64) as usize];
+        let residues: Vec<u32> = earlier.iter().map(|&x| reference::residue(m, x * factor)).collect();
+        numbers = residues.iter().map(|&x| if signed { written(random, m, x) } else { x as i64 }).collect();
+    }
+    let mut words = ledger::equation(&numbers);
+    if signed {
+        words = with_minus_zeros(random, words);
+    }
+    sometimes_spoiled(random, words, m)
 }
 
 /// v + t·w mod m
@@ -161,7 +211,7 @@ pub fn spoiled(random: &mut Random, mut words: Vec<u32>, m: u32) -> Vec<u32> {
     if words.is_empty() {
         return vec![random.bits() as u32];
     }
-    match random.below(9) {
+    match random.below(10) {
         0 => words.truncate(place),
         1 => words.push(words[place]),
         2 => words.insert(0, words[place]),
@@ -170,6 +220,10 @@ pub fn spoiled(random: &mut Random, mut words: Vec<u32>, m: u32) -> Vec<u32> {
         5 => words[place] = ledger::word(ledger::kind(words[place]), m - 1),
         6 => words[place] = (words[place] & 0xF000_FFFF) + pick(random, &[1 << 16, 1 << 20, 1 << 27]),
         7 => words[place] = random.bits() as u32,
+        8 => {
+            let minus = pick(random, &[ledger::MINUS_COEFFICIENT, ledger::MINUS_RIGHT]);
+            words[place] = ledger::word(minus, ledger::number(words[place]));
+        }
         _ => words.swap(0, place),
     }
     words

@@ -5,7 +5,7 @@
 extern "C" {
     fn milebadger_version() -> u32;
     fn milebadger_gcd(a: u32, b: u32, out: *mut u32, out_len: usize) -> i64;
-    fn milebadger_congruence(a: u32, b: u32, m: u32, out: *mut u32, out_len: usize) -> i64;
+    fn milebadger_congruence(a: i32, b: i32, m: u32, out: *mut u32, out_len: usize) -> i64;
     fn milebadger_solve(m: u32, n: u32, lines: *const u32, lines_len: usize, out: *mut u32, out_len: usize) -> i64;
     fn milebadger_safe(
         m: u32,
@@ -67,7 +67,7 @@ pub fn gcd(a: u32, b: u32, len: usize) -> Reply {
     lend(len, |out, len| unsafe { milebadger_gcd(a, b, out, len) })
 }
 
-pub fn congruence(a: u32, b: u32, m: u32, len: usize) -> Reply {
+pub fn congruence(a: i32, b: i32, m: u32, len: usize) -> Reply {
     lend(len, |out, len| unsafe { milebadger_congruence(a, b, m, out, len) })
 }
 

@@ -190,7 +190,7 @@ pub fn read(text: &[u8]) -> Option<Typed> {
 }
 
 /// Texts on a sheet mod m with n unknowns, and the coefficients and the right side that they add, worked out by hand.
-pub const ADDED: [(u32, usize, &str, &[u32]); 14] = [
+pub const ADDED: [(u32, usize, &str, &[i64]); 14] = [
     (12, 3, "3*(x1 - 2*x2) + x3 = 5 - x1", &[4, 6, 1, 5]),
     (7, 3, "3*(x1 - 2*x2) + x3 = 5 - x1", &[4, 1, 1, 5]),
     (5, 1, "2*-x1 = --3", &[3, 3]),

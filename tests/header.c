@@ -10,8 +10,13 @@
 static const uint32_t words[] = {
     MILEBADGER_MODULUS(NUMBER), MILEBADGER_UNKNOWNS(MILEBADGER_MOST_UNKNOWNS), MILEBADGER_COEFFICIENT(0),
     MILEBADGER_RIGHT(4u), MILEBADGER_HEAD(MILEBADGER_LARGEST_HEAD), MILEBADGER_ENTRY(sizeof(char)),
-    MILEBADGER_STRIKE, MILEBADGER_ANSWER, MILEBADGER_WORD(7, 7),
+    MILEBADGER_STRIKE, MILEBADGER_ANSWER, MILEBADGER_WORD(7, 7), MILEBADGER_MINUS_COEFFICIENT(NUMBER),
+    MILEBADGER_MINUS_RIGHT(0),
 };
+
+/* Minus 1 has a kind of its own, and keeps its number. */
+typedef char kinds[MILEBADGER_MINUS_COEFFICIENT(1) == 0xA0000001 && MILEBADGER_MINUS_RIGHT(1) == 0xB0000001 ? 1 : -1];
+typedef char numbers[MILEBADGER_NUMBER(MILEBADGER_MINUS_RIGHT(MILEBADGER_LARGEST_NUMBER)) == 268435455 ? 1 : -1];
 
 static uint8_t lines[MILEBADGER_LINES_ROOM(sizeof words)];
 
@@ -20,17 +25,19 @@ typedef char room[MILEBADGER_LINES_ROOM(7) == MILEBADGER_LONGEST_ANSWER + 10 ? 1
 
 typedef char size[sizeof(milebadger_sheet) == 1164 ? 1 : -1];
 
-#if MILEBADGER_VERSION < 10100 || MILEBADGER_REFUSED_NOT_LINEAR != -13
+#if MILEBADGER_VERSION < 20000 || MILEBADGER_REFUSED_NOT_LINEAR != -13
 #error "names that the preprocessor cannot read"
 #endif
 
-/* Words of numbers that are known only here: bytes, one after the other, and two that have a sign. */
+/* Words of numbers that are known only here: bytes, one after the other, and two that have a sign, which picks a word's kind. */
 int64_t run_later(const uint8_t *bytes, int i, int64_t l);
 
 int64_t run_later(const uint8_t *bytes, int i, int64_t l)
 {
     uint32_t word = MILEBADGER_ENTRY(*bytes++);
     word ^= MILEBADGER_ENTRY(*bytes++) ^ MILEBADGER_ENTRY(i) ^ MILEBADGER_ENTRY(l);
+    word ^= i < 0 ? MILEBADGER_MINUS_COEFFICIENT(-i) : MILEBADGER_COEFFICIENT(i);
+    word ^= l < 0 ? MILEBADGER_MINUS_RIGHT(-l) : MILEBADGER_RIGHT(l);
     for (size_t j = 0; j < sizeof words / sizeof *words; j++)
         word ^= words[j];
     return milebadger_tape(bytes, MILEBADGER_NUMBER(word) % MILEBADGER_LONGEST_TAPE, lines, sizeof lines);
@@ -49,6 +56,15 @@ const char *sheet_later(uint32_t *out, size_t out_len)
     if (milebadger_mark(&sheet, out, out_len) == MILEBADGER_PASS)
         return milebadger_sentence(result);
     return milebadger_sentence(MILEBADGER_FAIL);
+}
+
+/* The numbers of a congruence may have a sign, and need no cast. */
+int64_t congruence_later(int32_t a, uint32_t *out);
+
+int64_t congruence_later(int32_t a, uint32_t *out)
+{
+    int64_t (*const call)(int32_t, int32_t, uint32_t, uint32_t *, size_t) = milebadger_congruence;
+    return call(a, -1, MILEBADGER_LARGEST_MODULUS, out, 2) + milebadger_congruence(-a, INT32_MIN, 2, out, 2);
 }
 
 /* Every result has a case of its own. */

@@ -31,15 +31,34 @@ pub const MULTIPLIER: u32 = 7;
 pub const STRIKE: u32 = 8;
 pub const ANSWER: u32 = 9;
 
+/// "Kinds 10 and 11 become a negative coefficient and a negative right side."
+pub const MINUS_COEFFICIENT: u32 = 10;
+pub const MINUS_RIGHT: u32 = 11;
+
+/// "Any number of 28 bits is allowed": the largest.
+pub const LARGEST: i64 = (1 << 28) - 1;
+
 /// "Open: kinds 1, 2."
 pub fn opening(m: u32, n: u32) -> Vec<u32> {
     vec![word(MODULUS, m), word(UNKNOWNS, n)]
 }
 
-/// "Equation: n of kind 3, one of kind 4."
-pub fn equation(numbers: &[u32]) -> Vec<u32> {
+/// "Equation: n of kind 3, one of kind 4": these numbers, those below 0 with kinds 10 and 11.
+pub fn equation(numbers: &[i64]) -> Vec<u32> {
+    let signed = |plus: u32, minus: u32, number: i64| word(if number < 0 { minus } else { plus }, number.unsigned_abs() as u32);
     let (right, coefficients) = numbers.split_last().expect("an equation has a right side");
-    coefficients.iter().map(|&a| word(COEFFICIENT, a)).chain([word(RIGHT, *right)]).collect()
+    let coefficients = coefficients.iter().map(|&a| signed(COEFFICIENT, MINUS_COEFFICIENT, a));
+    coefficients.chain([signed(RIGHT, MINUS_RIGHT, *right)]).collect()
+}
+
+/// The whole number that a word of an equation stands for.
+pub fn whole(word: u32) -> i64 {
+    let size = number(word) as i64;
+    if [MINUS_COEFFICIENT, MINUS_RIGHT].contains(&kind(word)) {
+        -size
+    } else {
+        size
+    }
 }
 
 /// "Claim: a head, then head number times n entries": these vectors, or none of them.
@@ -64,8 +83,16 @@ fn is_opening(words: &[u32]) -> bool {
     kinds(words) == [MODULUS, UNKNOWNS]
 }
 
+/// Kinds 10 and 11 "may stand wherever 3 and 4 may".
 fn is_equation(n: usize, words: &[u32]) -> bool {
-    kinds(words) == [vec![COEFFICIENT; n], vec![RIGHT]].concat()
+    match kinds(words).split_last() {
+        Some((right, coefficients)) => {
+            coefficients.len() == n
+                && coefficients.iter().all(|kind| [COEFFICIENT, MINUS_COEFFICIENT].contains(kind))
+                && [RIGHT, MINUS_RIGHT].contains(right)
+        }
+        None => false,
+    }
 }
 
 /// "0 claims no solution and describes no vector, 1..17 is a starting vector with its steps."
@@ -160,7 +187,8 @@ pub fn described(m: u32, vectors: &[Vec<u32>]) -> BTreeSet<Vec<u32>> {
     all
 }
 
-/// 'The ledger is "unopened", or m, n and a list of equations.'
+/// 'The ledger is "unopened", or m, n and a list of equations.' The equations are kept as they were written; "the ledger holds
+/// residues" is `reduced`.
 #[derive(Clone, Debug, PartialEq)]
 pub enum Ledger {
     Unopened,
@@ -168,6 +196,14 @@ pub enum Ledger {
 }
 
 impl Ledger {
+    /// The same with the residues of all numbers.
+    pub fn reduced(&self) -> Ledger {
+        match self {
+            Ledger::Unopened => Ledger::Unopened,
+            Ledger::Opened(system) => Ledger::Opened(system.reduced()),
+        }
+    }
+
     /// The call's answer, and in the ledger what an accepted call enters.
     pub fn run(&mut self, call: &Call) -> Said {
         if let Some(number) = self.refusal(call) {
@@ -181,12 +217,13 @@ impl Ledger {
             }
             (_, Ledger::Unopened) => unreachable!("question 4"),
             (Call::Add(words), Ledger::Opened(system)) => {
-                system.equations.push(numbers(words));
+                system.equations.push(words.iter().map(|&w| whole(w)).collect());
                 Said::Added(system.equations.len())
             }
             (Call::AddText(typed), Ledger::Opened(system)) => {
                 let typed = typed.as_ref().expect("question 11");
-                system.equations.push(typed.numbers(system.m, system.n));
+                let numbers = typed.numbers(system.m, system.n);
+                system.equations.push(numbers.iter().map(|&number| number as i64).collect());
                 Said::Added(system.equations.len())
             }
             (Call::Strike(_), Ledger::Opened(system)) => {
@@ -203,7 +240,7 @@ impl Ledger {
     fn refusal(&self, call: &Call) -> Option<u32> {
         let questions: &[u32] = match call {
             Call::Open(_) => &[1, 2, 3],
-            Call::Add(_) => &[4, 1, 5, 6],
+            Call::Add(_) => &[4, 1, 5],
             Call::AddText(_) => &[4, 11, 12, 13, 5],
             Call::Strike(_) => &[4, 1, 7],
             Call::Answer(_) => &[4, 8],
@@ -227,7 +264,6 @@ impl Ledger {
             (4, _) => matches!(self, Ledger::Opened(_)),
             (1, Call::Add(words)) => is_equation(system().n, words),
             (5, Call::Add(_) | Call::AddText(_)) => system().equations.len() < 16,
-            (6, Call::Add(words)) => words.iter().all(|&w| number(w) < system().m),
             (11, Call::AddText(typed)) => typed.is_some(),
             (12, Call::AddText(Some(typed))) => typed.unknowns().iter().all(|&j| j <= system().n),
             (13, Call::AddText(Some(typed))) => typed.linear(),

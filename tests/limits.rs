@@ -38,7 +38,7 @@ fn lines(words: &[u32]) -> String {
 #[test]
 fn the_archive_has_the_version_of_the_header() {
     assert_eq!(face::version() as usize, limit("VERSION"));
-    assert_eq!(face::version(), 10_100, "1.1.0");
+    assert_eq!(face::version(), 20_000, "2.0.0");
 }
 
 #[test]
@@ -61,9 +61,49 @@ fn a_sheet_goes_as_far_as_the_header_says() {
     assert_eq!(outcome(Act::Answer(face::untouched(longest))), Outcome::Wrote(longest));
     assert_eq!(outcome(Act::MarkBlock), Outcome::Pass);
     for held in 1..=k {
-        assert_eq!(outcome(Act::Add(equation(&vec![m - 1; n + 1]))), Outcome::Holds(held));
+        assert_eq!(outcome(Act::Add(equation(&vec![m as i64 - 1; n + 1]))), Outcome::Holds(held));
     }
-    assert_eq!(outcome(Act::Add(equation(&vec![m - 1; n + 1]))), Outcome::Refused(5));
+    assert_eq!(outcome(Act::Add(equation(&vec![m as i64 - 1; n + 1]))), Outcome::Refused(5));
+}
+
+#[test]
+fn numbers_of_an_equation_go_as_far_as_the_header_says_and_those_of_a_claim_up_to_the_modulus() {
+    let largest = limit("LARGEST_NUMBER") as i64;
+    let (mut desk, m) = (Desk::fresh(), limit("LARGEST_MODULUS") as u32);
+    let mut outcome = |act: Act| desk.act(&act).unwrap().outcome;
+    assert_eq!(outcome(Act::Open(opening(m, 2))), Outcome::Holds(0));
+    for (held, numbers) in [[largest; 3], [-largest; 3], [largest, -largest, 0], [0, largest, -largest]].iter().enumerate() {
+        assert_eq!(outcome(Act::Add(equation(numbers))), Outcome::Holds(held + 1), "{numbers:?}");
+    }
+    for (number, expected) in [(m - 1, Outcome::Fail), (m, Outcome::Refused(6)), (largest as u32, Outcome::Refused(6))] {
+        assert_eq!(outcome(Act::Mark(vec![word(HEAD, 1), word(ENTRY, 1), word(ENTRY, number)])), expected, "{number}");
+    }
+}
+
+/// The kind that the header gives to the words of a name.
+fn kind(name: &str) -> u32 {
+    let define = format!("#define MILEBADGER_{name}");
+    let rest = HEADER.lines().find_map(|line| line.strip_prefix(&define)).expect(name);
+    let (_, behind) = rest.split_once("MILEBADGER_WORD(").expect(name);
+    behind.split_once(',').unwrap().0.parse().unwrap()
+}
+
+#[test]
+fn the_header_has_the_kinds_of_the_paper() {
+    for (name, number) in [
+        ("MODULUS(", ledger::MODULUS),
+        ("UNKNOWNS(", ledger::UNKNOWNS),
+        ("COEFFICIENT(", ledger::COEFFICIENT),
+        ("RIGHT(", ledger::RIGHT),
+        ("HEAD(", HEAD),
+        ("ENTRY(", ENTRY),
+        ("STRIKE ", ledger::STRIKE),
+        ("ANSWER ", ANSWER),
+        ("MINUS_COEFFICIENT(", ledger::MINUS_COEFFICIENT),
+        ("MINUS_RIGHT(", ledger::MINUS_RIGHT),
+    ] {
+        assert_eq!(kind(name), number, "{name}");
+    }
 }
 
 #[test]
@@ -149,7 +189,7 @@ fn long_answer() -> Vec<u32> {
         let mut numbers = digits(line);
         let right = numbers.iter().zip(&start).map(|(a, x)| a * x).sum::<u32>() % m;
         numbers.resize(16, 0);
-        words.extend(equation(&[numbers, vec![right]].concat()));
+        words.extend(equation(&[numbers, vec![right]].concat().iter().map(|&number| number as i64).collect::<Vec<i64>>()));
     }
     words
 }

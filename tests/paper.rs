@@ -6,12 +6,12 @@ mod reference;
 mod tape;
 
 use grammar::{Tree, Typed, ADDED, OUTSIDE, REFUSED};
-use ledger::{Call, Ledger, Said, Solved};
+use ledger::{Call, Ledger, Said, Solved, LARGEST};
 use reference::{Answer, Congruence, System};
 use std::rc::Rc;
-use tape::{PAPER_LINES, PAPER_TAPE};
+use tape::{PAPER_LINES, PAPER_TAPE, SIGNED};
 
-fn system(m: u32, n: usize, equations: &[&[u32]]) -> System {
+fn system(m: u32, n: usize, equations: &[&[i64]]) -> System {
     System { m, n, equations: equations.iter().map(|equation| equation.to_vec()).collect() }
 }
 
@@ -21,7 +21,7 @@ fn from(start: &[u32], steps: &[&[u32]]) -> Solved {
 }
 
 /// A ledger with these equations.
-fn opened(m: u32, n: u32, equations: &[&[u32]]) -> Ledger {
+fn opened(m: u32, n: u32, equations: &[&[i64]]) -> Ledger {
     let mut sheet = Ledger::Unopened;
     assert_eq!(sheet.run(&Call::Open(ledger::opening(m, n))), Said::Opened { m, n: n as usize });
     for (held, equation) in equations.iter().enumerate() {
@@ -41,6 +41,72 @@ fn one_congruence_is_as_the_paper_says() {
     assert_eq!(reference::congruence(4, 6, 12), Congruence::NoSolution);
     assert!(system(12, 1, &[&[4, 6]]).refuted_by(&[3]));
     assert!(!system(12, 1, &[&[4, 6]]).refuted_by(&[6]));
+    assert_eq!(reference::congruence(-1, 1, 65_535), Congruence::Solutions { least: 65_534, spacing: 65_535 });
+    assert_eq!(reference::congruence(1, i32::MIN, 65_535), Congruence::Solutions { least: 32_767, spacing: 65_535 });
+    assert_eq!(reference::congruence(-4, -8, 12), Congruence::Solutions { least: 2, spacing: 3 });
+    assert_eq!(reference::congruence(-4, 6, 12), Congruence::NoSolution);
+    for m in [1, 65_536] {
+        assert_eq!(reference::congruence(-1, 1, m), Congruence::Refused(2));
+    }
+}
+
+#[test]
+fn a_residue_is_the_only_number_below_m_that_differs_by_a_multiple_of_m() {
+    for (m, whole, residue) in [
+        (65_535, 268_435_455, 4_095),
+        (65_535, -268_435_455, 61_440),
+        (65_535, i32::MIN as i64, 32_767),
+        (65_535, -1, 65_534),
+        (2, -1, 1),
+        (2, 0, 0),
+    ] {
+        assert_eq!(reference::residue(m, whole), residue, "{whole} mod {m}");
+    }
+    for m in [2, 3, 4, 6, 12, 255] {
+        for whole in (-600..=600).chain([LARGEST, -LARGEST, i32::MIN as i64, i32::MAX as i64]) {
+            let found: Vec<u32> = (0..m).filter(|&r| (whole - r as i64) % m as i64 == 0).collect();
+            assert_eq!(found, [reference::residue(m, whole)], "{whole} mod {m}");
+        }
+    }
+}
+
+#[test]
+fn equations_with_signs_and_large_numbers_have_the_solutions_of_their_residues() {
+    let written = [system(7, 2, &[&[1, -2, -1]]), system(7, 2, &[&[-6, 12, 700_006]]), system(7, 2, &[&[8, -9, -LARGEST]])];
+    for system in written {
+        assert_eq!(system.reduced().equations, [[1, 5, 6]]);
+        assert_eq!(ledger::solve(&system), from(&[0, 4], &[&[1, 4]]));
+    }
+    // -2·x = 1 mod 4: twice it is 0 = 2
+    assert_eq!(ledger::solve(&system(4, 1, &[&[-2, 1]])), Solved::Nothing);
+    assert!(system(4, 1, &[&[-2, 1]]).refuted_by(&[2]));
+    assert!(!system(4, 1, &[&[-2, 1]]).refuted_by(&[1]));
+    // -x = 0 and x = 3 mod 3 are the same, and both are x = 0
+    assert!(!system(3, 1, &[&[-1, 0], &[1, 3]]).refuted_by(&[1, 1]));
+    assert_eq!(ledger::solve(&system(3, 1, &[&[-1, 0], &[1, 3]])), from(&[0], &[]));
+}
+
+#[test]
+fn adding_asks_for_an_opened_sheet_the_shape_and_room_alone() {
+    let mut sheet = opened(3, 2, &[]);
+    let [a, b] = [ledger::word(ledger::MINUS_COEFFICIENT, 1), ledger::word(ledger::MINUS_RIGHT, 1)];
+    let [plus, right] = [ledger::word(ledger::COEFFICIENT, 9), ledger::word(ledger::RIGHT, 9)];
+    for (words, said) in [
+        (vec![a, a, b], Said::Added(1)),
+        (vec![plus, a, b], Said::Added(2)),
+        (vec![a, plus, right], Said::Added(3)),
+        (vec![a, a, a], Said::Refused(1)),
+        (vec![a, b, b], Said::Refused(1)),
+        (vec![b, a, b], Said::Refused(1)),
+        (vec![a, b], Said::Refused(1)),
+        (vec![a, a, a, b], Said::Refused(1)),
+        (vec![], Said::Refused(1)),
+    ] {
+        assert_eq!(Ledger::Unopened.run(&Call::Add(words.clone())), Said::Refused(4), "{words:x?}");
+        assert_eq!(sheet.run(&Call::Add(words.clone())), said, "{words:x?}");
+    }
+    assert_eq!(sheet, Ledger::Opened(system(3, 2, &[&[-1, -1, -1], &[9, -1, -1], &[-1, 9, 9]])));
+    assert_eq!(sheet.reduced(), Ledger::Opened(system(3, 2, &[&[2, 2, 2], &[0, 2, 2], &[2, 0, 0]])));
 }
 
 #[test]
@@ -134,7 +200,15 @@ fn prints(tape: &[u8], lines: &str) {
 
 #[test]
 fn the_tape_is_cut_into_calls_as_the_paper_says() {
-    for (words, lines) in tape::readings() {
+    for (words, lines) in tape::readings().into_iter().chain(tape::signed_readings()) {
+        prints(&tape::bytes(&words), &lines);
+    }
+}
+
+#[test]
+fn equations_with_minus_signs_have_the_answers_that_were_worked_out_by_hand() {
+    for (m, equation, answer) in SIGNED {
+        let (words, lines) = tape::signed_tape(m, equation, answer);
         prints(&tape::bytes(&words), &lines);
     }
 }

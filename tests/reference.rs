@@ -57,17 +57,14 @@ pub enum Congruence {
     Solutions { least: u32, spacing: u32 },
 }
 
-/// "m allowed? 2. a, b below m? 6.", then every t from 0 on. The spacing is the way to the next solution, which may lie
-/// past m.
-pub fn congruence(a: u32, b: u32, m: u32) -> Congruence {
+/// "m allowed? 2.", then every t from 0 on: a·t - b, a whole number, is a multiple of m. The spacing is the way to the next
+/// solution, which may lie past m.
+pub fn congruence(a: i32, b: i32, m: u32) -> Congruence {
     if !(2..=65_535).contains(&m) {
         return Congruence::Refused(2);
     }
-    if a >= m || b >= m {
-        return Congruence::Refused(6);
-    }
-    let solves = |t: &u64| a as u64 * t % m as u64 == b as u64;
-    match (0..m as u64).find(solves) {
+    let solves = |t: &i64| (a as i64 * t - b as i64) % m as i64 == 0;
+    match (0..m as i64).find(solves) {
         None => Congruence::NoSolution,
         Some(least) => {
             let next = (least + 1..).find(solves).unwrap();
@@ -76,18 +73,36 @@ pub fn congruence(a: u32, b: u32, m: u32) -> Congruence {
     }
 }
 
-/// A list of equations mod m in n unknowns; an equation is n coefficients and a right side.
+/// "Brought to its residue, 0..m-1": the number there that differs from this one by a multiple of m.
+pub fn residue(m: u32, whole: i64) -> u32 {
+    whole.rem_euclid(m as i64) as u32
+}
+
+/// A list of equations mod m in n unknowns; an equation is n coefficients and a right side. They are kept as they were written, as
+/// whole numbers with their signs, and nothing here that looks for solutions reduces them.
 #[derive(Clone, Debug, PartialEq)]
 pub struct System {
     pub m: u32,
     pub n: usize,
-    pub equations: Vec<Vec<u32>>,
+    pub equations: Vec<Vec<i64>>,
 }
 
 impl System {
-    /// The equations as the call takes them, one behind the other.
+    /// These equations, of numbers without signs.
+    pub fn of(m: u32, n: usize, equations: &[Vec<u32>]) -> System {
+        let whole = |equation: &Vec<u32>| equation.iter().map(|&number| number as i64).collect();
+        System { m, n, equations: equations.iter().map(whole).collect() }
+    }
+
+    /// The same equations written with residues.
+    pub fn reduced(&self) -> System {
+        let lines: Vec<Vec<u32>> = self.lines().chunks(self.n + 1).map(|line| line.to_vec()).collect();
+        System::of(self.m, self.n, &lines)
+    }
+
+    /// The equations as milebadger_solve takes them: residues, one equation behind the other.
     pub fn lines(&self) -> Vec<u32> {
-        self.equations.concat()
+        self.equations.iter().flatten().map(|&number| residue(self.m, number)).collect()
     }
 
     /// The same equations "with right sides put to 0".
@@ -97,26 +112,26 @@ impl System {
         System { equations, ..self.clone() }
     }
 
-    /// "A vector solves an equation if the sum of coefficient times entry leaves the right side mod m."
+    /// "A vector solves an equation if the sum of coefficient times entry leaves the right side mod m": their difference, a whole
+    /// number, is a multiple of m.
     pub fn solved_by(&self, vector: &[u32]) -> bool {
-        let m = self.m as u128;
         self.equations.iter().all(|equation| {
-            let sum: u128 = vector.iter().zip(equation).map(|(&x, &a)| x as u128 * a as u128).sum();
-            sum % m == equation[self.n] as u128 % m
+            let sum: i128 = vector.iter().zip(equation).map(|(&x, &a)| x as i128 * a as i128).sum();
+            (sum - equation[self.n] as i128) % self.m as i128 == 0
         })
     }
 
     /// "Multipliers, one residue for each equation, such that the equations so multiplied add up mod m to zero coefficients and a
     /// non-zero right side."
     pub fn refuted_by(&self, multipliers: &[u32]) -> bool {
-        let m = self.m as u128;
-        let column = |j: usize| -> u128 {
-            multipliers.iter().zip(&self.equations).map(|(&c, equation)| c as u128 * equation[j] as u128).sum::<u128>() % m
+        let is_multiple = |j: usize| -> bool {
+            let sum: i128 = multipliers.iter().zip(&self.equations).map(|(&c, equation)| c as i128 * equation[j] as i128).sum();
+            sum % self.m as i128 == 0
         };
         multipliers.len() == self.equations.len()
             && multipliers.iter().all(|&c| c < self.m)
-            && (0..self.n).all(|j| column(j) == 0)
-            && column(self.n) != 0
+            && (0..self.n).all(is_multiple)
+            && !is_multiple(self.n)
     }
 }
 

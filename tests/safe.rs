@@ -46,7 +46,7 @@ fn equations(safe: &Safe, rights: &[u32]) -> System {
         let counts = |j: usize| i / safe.columns == j / safe.columns || i % safe.columns == j % safe.columns;
         (0..n).map(|j| counts(j) as u32).chain([rights[i]]).collect()
     };
-    System { m: safe.m, n, equations: (0..n).map(line).collect() }
+    System::of(safe.m, n, &(0..n).map(line).collect::<Vec<Vec<u32>>>())
 }
 
 fn negatives(safe: &Safe) -> Vec<u32> {

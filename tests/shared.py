@@ -1,4 +1,5 @@
-"""The package's shared library, called from Python: a fresh sheet, each call on it, refusals that keep every byte, the version.
+"""The package's shared library, called from Python: a fresh sheet, each call on it, refusals that keep every byte, numbers with a
+sign, the version.
 
 usage: tests/shared.py LIBRARY HEADER
 """
@@ -28,6 +29,10 @@ for name, arguments in {
     function.restype = ctypes.c_int64
 
 MODULUS, UNKNOWNS, COEFFICIENT, RIGHT, HEAD, ENTRY, MULTIPLIER = range(1, 8)
+MINUS_COEFFICIENT, MINUS_RIGHT = 10, 11
+
+library.milebadger_congruence.argtypes = [ctypes.c_int32, ctypes.c_int32, ctypes.c_uint32, Words, ctypes.c_size_t]
+library.milebadger_congruence.restype = ctypes.c_int64
 
 
 def words(*pairs):
@@ -36,7 +41,9 @@ def words(*pairs):
 
 
 def equation(*numbers):
-    return words(*((COEFFICIENT, a) for a in numbers[:-1]), (RIGHT, numbers[-1]))
+    """Those below 0 with a minus sign."""
+    kinds = [(MINUS_COEFFICIENT, COEFFICIENT)] * (len(numbers) - 1) + [(MINUS_RIGHT, RIGHT)]
+    return words(*((kind[number >= 0], abs(number)) for kind, number in zip(kinds, numbers)))
 
 
 def text(typed):
@@ -80,8 +87,10 @@ refused(-2, "open", words((MODULUS, 65536), (UNKNOWNS, 2)), 2)
 same(lend("open", words((MODULUS, 4), (UNKNOWNS, 2))), 0)
 refused(-7, "strike", 0)
 same(lend("add", equation(1, 2, 0)), 1)
-refused(-6, "add", equation(1, 4, 0), 3)
 refused(-1, "add", equation(1, 0), 2)
+refused(-1, "add", equation(-1, 0), 2)
+refused(-1, "add", words((COEFFICIENT, 1), (MINUS_RIGHT, 2), (RIGHT, 0)), 3)
+refused(-1, "add", words((COEFFICIENT, 1), (COEFFICIENT, 2), (MINUS_COEFFICIENT, 0)), 3)
 refused(-1, "strike", 1)
 refused(-8, "answer", out, 6)
 same(lend("answer", out), 7)
@@ -91,6 +100,16 @@ same(call("mark", out, 7), 1)
 same(lend("mark", block(2, 0, 0, 2, 3)), 1)
 same(lend("mark", block(2, 0, 0, 0, 2)), 0)
 refused(-1, "mark", block(2, 0, 0, 0), 4)
+refused(-1, "mark", block(1, 0, 0, kind=MINUS_RIGHT), 3)
+refused(-6, "mark", block(1, 0, 4), 3)
+
+# The same equation once more: mod 4, -3 is 1, 268,435,454 is 2, and -8 is 0. So the sheet is that of the residues.
+plain = Sheet.from_buffer_copy(sheet)
+same(lend("add", equation(-3, 268435454, -8)), 2)
+with_signs, sheet = sheet, plain
+same(lend("add", equation(1, 2, 0)), 2)
+same(bytes(with_signs), bytes(sheet))
+same(call("strike", 0), 1)
 
 for result, typed in {-11: b"2x1 = 0", -12: b"x3 = 0", -13: b"x1*x2 = 0"}.items():
     refused(result, "add_text", *text(typed))
@@ -107,3 +126,19 @@ same(call("strike", 0), 1)
 same(lend("mark", words((HEAD, 0))), 0)
 sheet = first
 same(lend("mark", block(2, 0, 0, 2, 3)), 1)
+
+# -1·t = 1 mod 65,535; and t = b, whose least solution is the residue of b.
+pair = (ctypes.c_uint32 * 2)()
+for (a, b, m), solution in {
+    (-1, 1, 65535): 65534,
+    (1, -2147483648, 65535): 32767,
+    (1, 268435455, 65535): 4095,
+    (1, -268435455, 65535): 61440,
+    (1, -1, 2): 1,
+}.items():
+    same(library.milebadger_congruence(a, b, m, pair, 2), 1)
+    same(pair[:], [solution, m])
+same(library.milebadger_congruence(-4, 6, 12, pair, 2), 0)
+same(library.milebadger_congruence(-4, 8, 12, pair, 1), -8)
+same(library.milebadger_congruence(-4, 8, 65536, pair, 2), -2)
+same(pair[:], [1, 2])

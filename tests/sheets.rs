@@ -43,8 +43,8 @@ fn reading(numbers: &[u32]) -> Ledger {
     if !faults(numbers).is_empty() {
         return Ledger::Unopened;
     }
-    let equations = lines(numbers).map(|line| line.to_vec()).collect();
-    Ledger::Opened(System { m: numbers[MODULUS], n: numbers[UNKNOWNS] as usize, equations })
+    let equations: Vec<Vec<u32>> = lines(numbers).map(|line| line.to_vec()).collect();
+    Ledger::Opened(System::of(numbers[MODULUS], numbers[UNKNOWNS] as usize, &equations))
 }
 
 /// The numbers of a sheet that was just opened.
@@ -65,7 +65,11 @@ fn after(numbers: &[u32], act: &Act, outcome: Outcome) -> Vec<u32> {
     match (act, outcome) {
         (_, Outcome::Refused(_)) => {}
         (Act::Open(words), _) => numbers = opened(number(words[0]), number(words[1])),
-        (Act::Add(words), _) => enter(&mut numbers, words.iter().map(|&word| number(word)).collect()),
+        (Act::Add(words), _) => {
+            // "The ledger holds residues"
+            let line = words.iter().map(|&word| reference::residue(numbers[MODULUS], ledger::whole(word))).collect();
+            enter(&mut numbers, line);
+        }
         (Act::AddText(text), _) => {
             let typed = grammar::read(text).expect("refused with 11");
             let line = typed.numbers(numbers[MODULUS], numbers[UNKNOWNS] as usize);
@@ -83,7 +87,7 @@ fn expect(desk: &mut Desk, act: &Act, seed: u64, tally: &mut Tally) -> Outcome {
     let mut ledger = reading(&before);
     let found = step(desk, &mut ledger, act, tally).and_then(|reply| {
         let good = after(&before, act, reply.outcome);
-        assert_eq!(reading(&good), ledger, "{act:x?} on {before:?} (seed {seed})");
+        assert_eq!(reading(&good), ledger.reduced(), "{act:x?} on {before:?} (seed {seed})");
         let wrong = (0..NUMBERS).find(|&place| desk.numbers()[place] != good[place]);
         wrong.map_or(Ok(reply.outcome), |place| Err(format!("number {place} is {}, not {}", desk.numbers()[place], good[place])))
     });
@@ -94,14 +98,17 @@ fn expect(desk: &mut Desk, act: &Act, seed: u64, tally: &mut Tally) -> Outcome {
 fn expect_each(random: &mut Random, numbers: &[u32], tally: &mut Tally) {
     let unopened = System { m: 7, n: 2, equations: vec![] };
     let system = if let Ledger::Opened(system) = reading(numbers) { system } else { unopened };
-    let ones = vec![1; system.n];
+    let (ones, plus) = (vec![1; system.n], vec![1; system.n]);
+    let minus = vec![-(system.m as i64) - 1; system.n];
     for act in [
         open(5, 3),
         open(1, 1),
         Act::Open(vec![]),
-        add(&[&ones[..], &[0]].concat()),
-        add(&[&ones[..], &[system.m]].concat()),
-        add(&ones),
+        add(&[&plus[..], &[0]].concat()),
+        add(&[&plus[..], &[system.m as i64]].concat()),
+        add(&[&minus[..], &[-ledger::LARGEST]].concat()),
+        add(&plus),
+        add(&minus),
         add_text("2 * (x1 - 3) = 1"),
         add_text("2 (x1 - 3) = 1"),
         add_text("x16 = 0"),

@@ -110,7 +110,7 @@ fn random_system(random: &mut Random, m: u32, n: usize, k: usize) -> System {
         }
         equations.push(equation);
     }
-    System { m, n, equations }
+    System::of(m, n, &equations)
 }
 
 /// The sum of coefficient times entry, mod m.
@@ -133,8 +133,8 @@ fn every_tiny_system_gets_its_answer() {
     for (n, k, largest) in [(1, 1, 12), (1, 2, 8), (2, 1, 7), (2, 2, 3), (3, 1, 4)] {
         for m in 2..=largest {
             for numbers in reference::vectors(m, k * (n + 1)) {
-                let equations = numbers.chunks(n + 1).map(|equation| equation.to_vec()).collect();
-                expect(&System { m, n, equations }, 0);
+                let equations: Vec<Vec<u32>> = numbers.chunks(n + 1).map(|equation| equation.to_vec()).collect();
+                expect(&System::of(m, n, &equations), 0);
             }
         }
     }
@@ -240,7 +240,7 @@ fn full_size_systems_with_known_solutions_reach_all_of_them() {
                 equation.push(product(m, &equation, &solution));
                 equations.push(equation);
             }
-            let system = System { m, n, equations };
+            let system = System::of(m, n, &equations);
             let Found::Solutions(found) = solve(&system) else {
                 panic!("{system:?}: none, where {solution:?} is one (seed {})", random.seed)
             };
@@ -265,10 +265,10 @@ fn the_block_depends_on_the_solutions_alone() {
         other.equations.reverse();
         other.equations.push(system.equations[0].clone());
         let last = other.equations[0].clone();
-        let sum = last.iter().zip(&system.equations[0]).map(|(&x, &y)| ((x as u64 + y as u64) % m as u64) as u32).collect();
+        let sum = last.iter().zip(&system.equations[0]).map(|(&x, &y)| (x + y) % m as i64).collect();
         other.equations.push(sum);
         let unit = random_unit(&mut random, m) as u64;
-        other.equations[0].iter_mut().for_each(|entry| *entry = (*entry as u64 * unit % m as u64) as u32);
+        other.equations[0].iter_mut().for_each(|entry| *entry = (*entry as u64 * unit % m as u64) as i64);
         match (solve(&system), solve(&other)) {
             (Found::Solutions(one), Found::Solutions(two)) => {
                 assert_eq!(one, two, "{system:?} and {other:?} (seed {})", random.seed)
@@ -282,7 +282,7 @@ fn the_block_depends_on_the_solutions_alone() {
     }
 }
 
-fn system(m: u32, n: usize, equations: &[&[u32]]) -> System {
+fn system(m: u32, n: usize, equations: &[&[i64]]) -> System {
     System { m, n, equations: equations.iter().map(|equation| equation.to_vec()).collect() }
 }
 
@@ -326,7 +326,7 @@ fn an_equation_of_zeros_changes_nothing_and_zeros_with_a_right_side_have_no_solu
             (Found::Multipliers(_), Found::Multipliers(two)) => assert!(after.refuted_by(&two), "{after:?}: {two:?}"),
             _ => panic!("{before:?} (seed {})", random.seed),
         }
-        after.equations.last_mut().unwrap()[n] = 1 + random.below(m as u64 - 1) as u32;
+        after.equations.last_mut().unwrap()[n] = 1 + random.below(m as u64 - 1) as i64;
         assert!(refuted(&after), "{after:?} (seed {})", random.seed);
     }
 }

@@ -1,7 +1,8 @@
 //! The paper's tape and its lines once more in plain Rust, over the ledger beside it.
 #![allow(dead_code)]
 
-use crate::ledger::{self, kind, number, word, Call, Ledger, Said, Solved, ANSWER, COEFFICIENT, HEAD, MODULUS, STRIKE};
+use crate::ledger::{self, kind, number, word, Call, Ledger, Said, Solved};
+use crate::ledger::{ANSWER, COEFFICIENT, HEAD, MINUS_COEFFICIENT, MODULUS, STRIKE};
 
 /// The most bytes that a tape may have.
 pub const LONGEST_TAPE: usize = 65_536;
@@ -17,12 +18,13 @@ pub fn words(tape: &[u8]) -> Vec<u32> {
 }
 
 /// "The first word's kind picks the call: 1 takes 2 words, 3 takes n+1, 5 takes 1 + n times its number; all other kinds take one,
-/// as do 3 and 5 when unopened and 5 with a number above 17. If fewer remain, all of them." The call, and how many words it takes.
+/// as do 3 and 5 when unopened and 5 with a number above 17. If fewer remain, all of them." And "a first word of kind 10 begins an
+/// add of n+1 words as kind 3 does". The call, and how many words it takes.
 pub fn first_call(ledger: &Ledger, words: &[u32]) -> (Call, usize) {
     let (kind, number) = (kind(words[0]), number(words[0]));
     let wanted = match (kind, ledger) {
         (MODULUS, _) => 2,
-        (COEFFICIENT, Ledger::Opened(system)) => system.n + 1,
+        (COEFFICIENT | MINUS_COEFFICIENT, Ledger::Opened(system)) => system.n + 1,
         (HEAD, Ledger::Opened(system)) if number <= 17 => 1 + system.n * number as usize,
         _ => 1,
     };
@@ -30,7 +32,7 @@ pub fn first_call(ledger: &Ledger, words: &[u32]) -> (Call, usize) {
     let own = words[..used].to_vec();
     let call = match kind {
         MODULUS => Call::Open(own),
-        COEFFICIENT => Call::Add(own),
+        COEFFICIENT | MINUS_COEFFICIENT => Call::Add(own),
         HEAD => Call::Mark(own),
         STRIKE => Call::Strike(number),
         ANSWER => Call::AnswerFromTape(words[0]),
@@ -144,13 +146,13 @@ pub const PAPER_LINES: &str = "open 2 2\nadded 1\nfrom 0 1\nstep 1 1\nadded 2\nn
 /// Tapes that are easily misread, with their lines.
 pub fn readings() -> Vec<(Vec<u32>, String)> {
     let opened = |words: &[u32]| [&ledger::opening(3, 2), words].concat();
-    let meaningless: Vec<u32> = [0, 2, 4, 6, 7, 10, 11, 12, 13, 14, 15].iter().map(|&kind| word(kind, 5)).collect();
+    let meaningless: Vec<u32> = [0, 2, 4, 6, 7, 11, 12, 13, 14, 15].iter().map(|&kind| word(kind, 5)).collect();
     vec![
         // whatever its number, a word of a call on an unopened sheet says 4
         (vec![0x3000_0001, 0x5000_0001, 0x8000_0001, 0x9000_0001, 0x8000_0000, 0x9000_0000], "refused 4\n".repeat(6)),
-        // words without meaning say 1, opened or not
-        (meaningless.clone(), "refused 1\n".repeat(11)),
-        (opened(&meaningless), "open 3 2\n".to_string() + &"refused 1\n".repeat(11)),
+        // words without meaning, and a minus right side, say 1, opened or not
+        (meaningless.clone(), "refused 1\n".repeat(10)),
+        (opened(&meaningless), "open 3 2\n".to_string() + &"refused 1\n".repeat(10)),
         // a call's length does not look at the kinds of the later words
         (opened(&[0x3000_0001, 0x9000_0000, 0x4000_0000]), "open 3 2\nrefused 1\n".to_string()),
         // a call that is cut off is one call
@@ -161,4 +163,76 @@ pub fn readings() -> Vec<(Vec<u32>, String)> {
         // the word's number is asked for before an equation
         (opened(&[0x9000_0001, 0x8000_0001, 0x8000_0000]), "open 3 2\nrefused 1\nrefused 1\nrefused 7\n".to_string()),
     ]
+}
+
+/// Tapes with minus signs and numbers from m on, with their lines.
+pub fn signed_readings() -> Vec<(Vec<u32>, String)> {
+    let opened = |words: &[u32]| [&ledger::opening(3, 2), words].concat();
+    let wrong_shape = |words: &[u32]| (opened(words), "open 3 2\nrefused 1\n".to_string());
+    let full = [ledger::opening(3, 2), ledger::equation(&[0, 0, 0]).repeat(16)].concat();
+    let answered = [
+        [0xA000_0001, 0x3000_0001, 0xB000_0002, 0x9000_0000],
+        [0x3000_0001, 0xA000_0001, 0x4000_0002, 0x9000_0000],
+        [0xA000_0000, 0xA000_0000, 0xB000_0000, 0x9000_0000],
+    ];
+    let answers = (1..=3).map(|held| format!("added {held}\nfrom 0 1\nstep 1 1\n")).collect::<String>();
+    let filled = "open 3 2\n".to_string() + &(1..=16).map(|held| format!("added {held}\n")).collect::<String>();
+    vec![
+        // a minus coefficient takes one word where the sheet is not opened; the right side behind it is a word of its own
+        (vec![0xA000_0001, 0xA000_0000, 0xAFFF_FFFF, 0xB000_0001], "refused 4\n".repeat(3) + "refused 1\n"),
+        // a minus right side says 1, opened or not, and takes one word
+        (vec![0xB000_0000, 0x9000_0000, 0xBFFF_FFFF], "refused 1\nrefused 4\nrefused 1\n".to_string()),
+        (opened(&[0xB000_0001, 0xB000_0000, 0x8000_0000]), "open 3 2\nrefused 1\nrefused 1\nrefused 7\n".to_string()),
+        // one call, cut off: it is the last word of the paper's tape too
+        wrong_shape(&[0xA000_0000]),
+        wrong_shape(&[0xA000_0001, 0x3000_0000]),
+        wrong_shape(&[0x3000_0001, 0xA000_0000]),
+        // one call of two or three words, whatever kinds the later ones have
+        wrong_shape(&[0xA000_0001, 0x9000_0000, 0xB000_0000]),
+        wrong_shape(&[0xA000_0001, 0x3000_0001, 0xA000_0001]),
+        wrong_shape(&[0xA000_0001, 0xA000_0001, 0x3000_0001]),
+        wrong_shape(&[0xA000_0001, 0xB000_0001, 0xB000_0001]),
+        wrong_shape(&[0xA000_0001, 0x4000_0001, 0xB000_0001]),
+        wrong_shape(&[0x3000_0001, 0xB000_0001, 0x4000_0001]),
+        wrong_shape(&[0x5000_0001, 0xA000_0001, 0x6000_0001]),
+        wrong_shape(&[0x5000_0001, 0x6000_0001, 0xB000_0001]),
+        wrong_shape(&[0x1000_0003, 0xA000_0002]),
+        // a claim's entries have no minus sign and no number from m on
+        (opened(&[0x5000_0001, 0x6000_0003, 0x6000_0000]), "open 3 2\nrefused 6\n".to_string()),
+        // a full sheet asks for the shape first
+        ([&full[..], &[0xA000_0001, 0x3000_0001, 0xB000_0001]].concat(), filled.clone() + "refused 5\n"),
+        ([&full[..], &[0xA000_0003, 0x3000_0004, 0x4FFF_FFFF]].concat(), filled.clone() + "refused 5\n"),
+        ([&full[..], &[0xA000_0001, 0x3000_0001, 0xA000_0001]].concat(), filled.clone() + "refused 1\n"),
+        ([&full[..], &[0xA000_0001]].concat(), filled + "refused 1\n"),
+        // mod 3: -x1 + x2 = -2, then x1 - x2 = 2, then their sum, with minus 0 everywhere
+        (opened(&answered.concat()), "open 3 2\n".to_string() + &answers),
+    ]
+}
+
+/// One equation in one unknown mod m, by its two words, and the lines of its answer.
+pub const SIGNED: [(u32, [u32; 2], &str); 17] = [
+    (2, [0xA000_0001, 0x4000_0001], "from 1\n"),
+    (2, [0x3000_0001, 0xB000_0001], "from 1\n"),
+    (2, [0xAFFF_FFFF, 0xBFFF_FFFF], "from 1\n"),
+    (2, [0xA000_0002, 0xB000_0002], "from 0\nstep 1\n"),
+    (3, [0x3000_0004, 0x4000_0005], "from 2\n"),
+    (3, [0xA000_0004, 0x4000_0005], "from 1\n"),
+    (12, [0xA000_0004, 0xB000_0008], "from 2\nstep 3\n"),
+    (12, [0x3000_0010, 0xB000_0004], "from 2\nstep 3\n"),
+    (65_535, [0xA000_0001, 0x4000_0001], "from 65534\n"),
+    (65_535, [0xA000_0000, 0xB000_0000], "from 0\nstep 1\n"),
+    (65_535, [0x3000_FFFF, 0x4000_FFFF], "from 0\nstep 1\n"),
+    (65_535, [0xA000_FFFF, 0xB000_FFFF], "from 0\nstep 1\n"),
+    (65_535, [0x3000_0001, 0x4FFF_FFFF], "from 4095\n"),
+    (65_535, [0x3000_0001, 0xBFFF_FFFF], "from 61440\n"),
+    // 4,095 and 65,535 have the common divisor 15
+    (65_535, [0x3FFF_FFFF, 0x4000_0FFF], "from 1\nstep 4369\n"),
+    (65_535, [0xAFFF_FFFF, 0x4000_0FFF], "from 4368\nstep 4369\n"),
+    (65_535, [0xAFFF_FFFF, 0x4000_F000], "from 1\nstep 4369\n"),
+];
+
+/// Such a tape and all its lines.
+pub fn signed_tape(m: u32, equation: [u32; 2], answer: &str) -> (Vec<u32>, String) {
+    let words = [&ledger::opening(m, 1)[..], &equation, &[word(ANSWER, 0)]].concat();
+    (words, format!("open {m} 1\nadded 1\n{answer}"))
 }

@@ -1,5 +1,5 @@
-//! milebadger_tape against the reference, on tapes of every kind: exercises, boundary values, random words, random bytes, and cut
-//! anywhere. Multipliers are left free, so lines with `none` are compared by their property alone.
+//! milebadger_tape against the reference, on tapes of every kind: exercises with signs and without, boundary values, random words,
+//! random bytes, and cut anywhere. Multipliers are left free, so lines with `none` are compared by their property alone.
 mod exercises;
 mod face;
 mod grammar;
@@ -13,7 +13,7 @@ use ledger::{Call, Ledger, Said};
 use random::Random;
 use reference::System;
 use std::collections::{BTreeMap, BTreeSet};
-use tape::{LONGEST_TAPE, PAPER_LINES, PAPER_TAPE};
+use tape::{LONGEST_TAPE, PAPER_LINES, PAPER_TAPE, SIGNED};
 
 /// Which call was refused with which number; the tape's own refusals are those of "tape".
 type Tally = BTreeSet<(&'static str, u32)>;
@@ -117,7 +117,7 @@ fn boundary_word(random: &mut Random) -> u32 {
 /// "Questions, in order, and the number when the answer is no": every refusal that each call on tape can give.
 const REFUSALS: [(&str, &[u32]); 7] = [
     ("open", &[1, 2, 3]),
-    ("add", &[4, 1, 5, 6]),
+    ("add", &[4, 1, 5]),
     ("strike", &[4, 1, 7]),
     ("answer from tape", &[4, 1]),
     ("mark", &[4, 1, 6]),
@@ -137,10 +137,12 @@ fn the_tape_of_the_paper_prints_its_ten_lines() {
 #[test]
 fn exercises_print_their_lines_and_every_call_meets_its_refusals() {
     let mut random = Random::new();
-    let (mut tally, mut seen) = (Tally::new(), BTreeMap::new());
+    let (mut tally, mut seen, mut signs) = (Tally::new(), BTreeMap::new(), 0);
     for round in 0..4_000 {
         let calls = 1 + random.below(40) as usize;
-        let mut tape = tape::bytes(&exercise(&mut random, calls));
+        let words = exercise(&mut random, calls);
+        signs += words.iter().filter(|&&word| ledger::whole(word) < 0).count();
+        let mut tape = tape::bytes(&words);
         if chance(&mut random, 3) {
             tape.truncate(random.below(tape.len() as u64 + 1) as usize);
         }
@@ -153,6 +155,7 @@ fn exercises_print_their_lines_and_every_call_meets_its_refusals() {
         }
     }
     assert!(seen.len() == 9 && seen.values().all(|&times| times > 1_000), "{seen:?}");
+    assert!(signs > 10_000, "{signs} minus signs");
     let all: Tally = REFUSALS.iter().flat_map(|(name, numbers)| numbers.iter().map(|&number| (*name, number))).collect();
     assert_eq!(tally, all, "refusals seen, and refusals to be seen");
 }
@@ -171,8 +174,17 @@ fn tapes_of_boundary_values_print_their_lines() {
                 0 => words.push(boundary_word(&mut random)),
                 1 => words.push(ledger::word(ledger::HEAD, random.below(19) as u32)),
                 2 => words.extend(vec![ledger::word(ledger::ENTRY, boundary(&mut random)); random.below(40) as usize]),
-                3 => words.extend(vec![ledger::word(ledger::COEFFICIENT, boundary(&mut random)); random.below(18) as usize]),
-                4 => words.push(ledger::word(ledger::RIGHT, boundary(&mut random))),
+                3 => {
+                    let (plus, minus) = (ledger::COEFFICIENT, ledger::MINUS_COEFFICIENT);
+                    for _ in 0..random.below(18) {
+                        let kind = pick(&mut random, &[plus, plus, minus]);
+                        words.push(ledger::word(kind, boundary(&mut random)));
+                    }
+                }
+                4 => {
+                    let kind = pick(&mut random, &[ledger::RIGHT, ledger::MINUS_RIGHT]);
+                    words.push(ledger::word(kind, boundary(&mut random)));
+                }
                 _ => words.push(ledger::word(pick(&mut random, &[ledger::STRIKE, ledger::ANSWER]), boundary(&mut random))),
             }
         }
@@ -201,9 +213,59 @@ fn random_words_and_random_bytes_print_their_lines() {
 
 #[test]
 fn a_tape_is_cut_into_calls_as_the_paper_says() {
-    for (words, lines) in tape::readings() {
+    for (words, lines) in tape::readings().into_iter().chain(tape::signed_readings()) {
         assert_eq!(expect(&tape::bytes(&words), 0, &mut Tally::new()), lines, "{words:x?}");
     }
+}
+
+#[test]
+fn minus_signs_and_large_numbers_have_the_answers_that_the_paper_gives_them() {
+    for (m, equation, answer) in SIGNED {
+        let (words, lines) = tape::signed_tape(m, equation, answer);
+        assert_eq!(expect(&tape::bytes(&words), 0, &mut Tally::new()), lines, "{words:x?}");
+    }
+}
+
+#[test]
+fn every_pair_of_small_signed_numbers_gets_the_answer_of_whole_numbers() {
+    for m in [2, 3, 4, 6, 12] {
+        for a in -13..=13 {
+            let mut words = vec![];
+            for b in -13..=13 {
+                words.extend([ledger::opening(m, 1), ledger::equation(&[a, b]), vec![ledger::word(ledger::ANSWER, 0)]].concat());
+            }
+            expect(&tape::bytes(&words), 0, &mut Tally::new());
+        }
+    }
+}
+
+/// The calls of an exercise, each of them good, with its equations written as they come, and the same with residues.
+fn in_two_writings(random: &mut Random) -> [Vec<u32>; 2] {
+    let (m, n) = exercises::small_shape(random);
+    let (m, n) = if chance(random, 3) { (pick(random, &[2, 12, 32_768, 65_535]), pick(random, &[1, 8, 16])) } else { (m, n) };
+    let mut words = [ledger::opening(m, n), ledger::opening(m, n)];
+    for _ in 0..1 + random.below(12) {
+        let numbers: Vec<i64> = (0..=n).map(|_| if chance(random, 3) { 0 } else { exercises::any_whole(random, m) }).collect();
+        let residues: Vec<i64> = numbers.iter().map(|&x| reference::residue(m, x) as i64).collect();
+        let vectors = exercises::any_claim(random, m, n as usize);
+        let strikes = vec![ledger::word(ledger::STRIKE, 0); chance(random, 4) as usize];
+        let behind = [vec![ledger::word(ledger::ANSWER, 0)], ledger::claim(&vectors), strikes].concat();
+        words[0].extend([ledger::equation(&numbers), behind.clone()].concat());
+        words[1].extend([ledger::equation(&residues), behind].concat());
+    }
+    words
+}
+
+#[test]
+fn equations_with_signs_and_large_numbers_print_the_lines_of_their_residues() {
+    let mut random = Random::new();
+    let mut signs = 0;
+    for _ in 0..1_000 {
+        let [signed, plain] = in_two_writings(&mut random);
+        signs += signed.iter().filter(|&&word| ledger::whole(word) < 0).count();
+        assert_eq!(printed(&tape::bytes(&signed)), printed(&tape::bytes(&plain)), "{signed:x?} (seed {})", random.seed);
+    }
+    assert!(signs > 5_000, "{signs} minus signs");
 }
 
 #[test]
@@ -281,9 +343,10 @@ fn an_answer_that_was_printed_passes_as_a_claim_on_the_same_tape() {
         let mut words = ledger::opening(m, n);
         let solution: Vec<u64> = (0..n).map(|_| random.below(m as u64)).collect();
         for _ in 0..random.below(17) {
-            let mut numbers: Vec<u32> = (0..n).map(|_| random.below(m as u64) as u32).collect();
-            let right: u64 = numbers.iter().zip(&solution).map(|(&a, &x)| a as u64 * x % m as u64).sum();
-            numbers.push(if round % 4 == 0 { random.below(m as u64) } else { right % m as u64 } as u32);
+            let mut numbers: Vec<i64> = (0..n).map(|_| exercises::any_whole(&mut random, m)).collect();
+            let right: i64 = numbers.iter().zip(&solution).map(|(&a, &x)| a * x as i64).sum();
+            let right = if round % 4 == 0 { random.below(m as u64) as u32 } else { reference::residue(m, right) };
+            numbers.push(exercises::written(&mut random, m, right));
             words.extend(ledger::equation(&numbers));
         }
         words.push(ledger::word(ledger::ANSWER, 0));

@@ -296,7 +296,7 @@ fn products_of_the_largest_numbers_are_those_of_whole_numbers() {
                 let (outcome, desk) = Opened::new(m, 1).expect(text.as_bytes(), 0);
                 assert_eq!(outcome, Outcome::Holds(1), "{text}");
                 let mut other = Desk::with(&Opened::new(m, 1).numbers);
-                other.act(&add(&[product as u32, ((product + 5) % m as u128) as u32])).unwrap();
+                other.act(&add(&[product as i64, ((product + 5) % m as u128) as i64])).unwrap();
                 assert_eq!(desk.numbers(), other.numbers(), "{text} mod {m}");
             }
         }

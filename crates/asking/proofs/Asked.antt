@@ -2,7 +2,8 @@
 --   opened-asked   "opened? 4.", the first question
 --   plain-asked    "On tape, number 0? 1."
 --   held-asked     "An equation there? 7."
---   typing-asked   those of a typed equation on an opened sheet, by what the reader asks of its text
+--   room-asked     "opened? 4." and, behind what is asked of an equation, "Under 16 equations? 5.", on an opened sheet
+--   typing-asked   so it is with a typed equation, by what the reader asks of its text
 use mathlib.Core.Path.{_≡_, sym, ap, _∙_}
 use mathlib.Core.Bool.{true}
 use mathlib.Core.List.{List, [], _∷_, _++_}
@@ -34,6 +35,13 @@ module _ {qs : List Question} {before : ℕ} (asked : Asked qs before) {r : ℕ}
   held-asked {l} sees is =
       then-asked asked 7 tt (ltb 0 (length (equationsIn l))) (λ yes. ap (λ (k : ℕ). ltb 0 k) (sees .held)) is
 
+pub room-asked : (l : Ledger) {seen : Seen} → Sees l seen → seen .opened ≡ true → {qs : List Question} {before r : ℕ}
+    → Asked qs before → r ≡ thenAsks before 5 (ltb (seen .held) mostEquations)
+    → r ≡ firstNo (asks 4 (isOpened l) ∷ (qs ++ (asks 5 (ltb (length (equationsIn l)) mostEquations) ∷ [])))
+room-asked l sees opened asked is =
+    then-asked asked 5 tt (ltb (length (equationsIn l)) mostEquations) (λ yes. ap (λ (k : ℕ). ltb k mostEquations) (sees .held)) is .is
+    ∙ rw (sym (sees .opened) ∙ opened)
+
 -- the questions that are asked of the text, for n unknowns
 abbrev pub ofText : List ℕ → ℕ → List Question
 ofText text n = asks 11 (isTyped text) ∷ asks 12 (isWithin n text) ∷ asks 13 (isLinear text) ∷ []
@@ -45,5 +53,4 @@ unfolding refusalOf
 typing-asked l text {seen} {before} sees opened asked is =
     let typed : Asked (ofText text (unknownsOf l)) before =
     record { numbers = tt; is = asked ∙ ap (λ (n : ℕ). firstNo (ofText text n)) (sees .unknowns) } in
-    then-asked typed 5 tt (ltb (length (equationsIn l)) mostEquations) (λ yes. ap (λ (k : ℕ). ltb k mostEquations) (sees .held)) is .is
-    ∙ rw (sym (sees .opened) ∙ opened)
+    room-asked l sees opened typed is

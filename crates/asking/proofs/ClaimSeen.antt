@@ -10,7 +10,8 @@ use lib.ListN.{length, take, getD, replicate, length-replicate}
 use Rattle.slices.specs.Over.{over}
 use Rattle.equations.specs.Vectors.{sameVector}
 use Rattle.words.specs.Words.{wordsIn, kindsOf, numbersOf, haveKinds, headKind, entryKind}
-use Rattle.words.proofs.Unpacked.{kinds-seen, number-seen}
+use Rattle.words.proofs.Words.{kindOf, numberOf}
+use Rattle.words.proofs.Unpacked.{kinds-seen, part-seen}
 use Rattle.ledger.specs.Ledger.{mostUnknowns}
 use Rattle.ledger.specs.Shapes.{numberAt, isClaim, largestHead}
 use Rattle.asking.specs.Sees.{claimRoom}
@@ -49,5 +50,5 @@ module _ (n : ℕ) (few : n ≤ mostUnknowns) where
       → claimBy (getD numbers 0 0) (take r kinds) ≡ isClaim n (wordsIn ws)
   claim-seen ws kinds₀ numbers₀ {r} {kinds} {numbers} count ks xs =
       let head = getD numbers 0 0 in
-      and-where (leb head largestHead) (λ most. kinds-seen claimRoom ws kinds₀ count (kindsBy head) (kinds-fit head most) ks)
-      ∙ head-seen ws (number-seen claimRoom ws numbers₀ xs 0 (omega arith))
+      and-where (leb head largestHead) (λ most. kinds-seen kindOf claimRoom ws kinds₀ ks count (kindsBy head) (kinds-fit head most))
+      ∙ head-seen ws (part-seen numberOf claimRoom ws numbers₀ xs 0 (omega arith))

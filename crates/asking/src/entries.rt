@@ -1,5 +1,5 @@
-// The questions of the calls that open, add or strike. Where a call has words, their numbers go to lent memory, which has room for one
-// word more than the call can have: so many are enough to tell its shape.
+// The questions of the calls that open, add or strike. Where a call has words, their numbers, or their residues, go to lent memory,
+// which has room for one word more than the call can have: so many are enough to tell its shape.
 ghost use mathlib.Core.Path.{_≡_};
 ghost use Prim.Native.Nat.{_≤_, _<_};
 ghost use lib.Dec.{T};
@@ -7,6 +7,7 @@ ghost use lib.ListN.{length, take};
 ghost use Rattle.slices.specs.Over.{over};
 ghost use Rattle.equations.specs.Lines.{equationAt};
 ghost use Rattle.words.specs.Words.{wordsIn, numbersOf};
+ghost use Rattle.words.specs.Signs.{residuesOf};
 ghost use Rattle.grammar.specs.Texts.{typedOf, equationIn};
 ghost use Rattle.ledger.specs.Ledger.{Ledger, unopened, mostUnknowns};
 ghost use Rattle.ledger.specs.Calls.{opens, adds, types, strikes, enters};
@@ -20,9 +21,9 @@ use questions::ask;
 use questions::is_modulus;
 use system::limits::EQUATIONS;
 use system::limits::LINE;
-use system::residues::all_below;
 use typed::equation::Typing;
 use typed::equation::read;
+use words::signs::residues_into;
 use words::unpacking::unpack_into;
 
 pub const OPENING_ROOM: usize = 3;
@@ -41,20 +42,20 @@ pub fn open_refusal(words: &[u32], numbers: &mut [u32]) -> u32
     ask(modulus, 3, are_unknowns(numbers[1] as usize))
 }
 
-pub fn add_refusal(seen: Seen, words: &[u32], numbers: &mut [u32]) -> u32
-    requires { ⌜ (seen .unknowns ≤ mostUnknowns) × (length (now numbers) ≡ equationRoom) ⌝ }
+// An unopened sheet has no modulus: only on an opened one the line gets the residues of the words.
+pub fn add_refusal(seen: Seen, words: &[u32], line: &mut [u32]) -> u32
+    requires { ⌜ (seen .unknowns ≤ mostUnknowns) × (T (seen .opened) → 0 < seen .modulus) × (length (now line) ≡ equationRoom) ⌝ }
     ensures { λ r. ⌜ ((l : Ledger) → Sees l seen → r ≡ refusalOf l (enters (adds (now (words .entry))))) ⌝ }
-    ensures { λ _. ⌜ now (numbers .exit) ≡ over (take equationRoom (numbersOf (wordsIn (now (words .entry))))) (now (numbers .entry)) ⌝ }
+    ensures { λ _. ⌜ (T (seen .opened) → now (line .exit)
+        ≡ over (take equationRoom (residuesOf (seen .modulus) (wordsIn (now (words .entry))))) (now (line .entry))) ⌝ }
 {
+    if !seen.opened {
+        return 4;
+    }
     let mut kinds = [0u32; EQUATION_ROOM];
-    let count = unpack_into(words, &mut kinds, numbers);
-    let equation = is_equation(&kinds[..count], seen.unknowns);
-    let room = seen.held < EQUATIONS;
-    let below = all_below(seen.modulus, &numbers[..count]);
-    let opened = ask(0, 4, seen.opened);
-    let shape = ask(opened, 1, equation);
-    let under = ask(shape, 5, room);
-    ask(under, 6, below)
+    let count = residues_into(words, seen.modulus, &mut kinds, line);
+    let shape = ask(0, 1, is_equation(&kinds[..count], seen.unknowns));
+    ask(shape, 5, seen.held < EQUATIONS)
 }
 
 // A text has no words: where it is accepted, its line is part of what is given.

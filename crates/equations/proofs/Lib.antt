@@ -4,6 +4,7 @@ pub mod Dot
 pub mod Unit
 pub mod Vectors
 pub mod Lines
+pub mod Whole
 pub mod First
 pub mod Search
 pub mod Lists

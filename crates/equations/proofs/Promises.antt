@@ -2,8 +2,9 @@
 use mathlib.Core.Path.{fun-ext}
 use mathlib.Core.List.{_∷_, _++_}
 use native.Mathlib.Omega.{arith}
-use Rattle.equations.specs.Promises.{constant, DictionaryOrder, StartFirst, NoStart, StepFirst, NoStep, Complete, Unique, StepDivides, Counted, OwnAnswer, Refuted, NoEquations, ZeroEquation, ContradictoryEquation}
+use Rattle.equations.specs.Promises.{constant, DictionaryOrder, StartFirst, NoStart, StepFirst, NoStep, Complete, Unique, StepDivides, Counted, OwnAnswer, Refuted, NoEquations, ZeroEquation, ContradictoryEquation, ResiduesSolve}
 use Rattle.equations.proofs.Vectors.{before-asym, before-trans, before-total}
+use Rattle.equations.proofs.Whole as Whole
 use Rattle.equations.proofs.Answer.{first-solution, start-none, first-step, step-none, answer-complete, answer-unique}
 use Rattle.equations.proofs.Passing.{answer-passes, none-passes}
 use Rattle.equations.proofs.Number.{count-solutions}
@@ -60,3 +61,6 @@ zero-equation m n k es fs =
 
 pub contradictory-equation : ContradictoryEquation
 contradictory-equation = contradiction-none
+
+pub residues-solve : ResiduesSolve
+residues-solve m n xs v positive = Whole.residues-solve m positive n xs v

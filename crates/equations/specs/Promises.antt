@@ -7,10 +7,14 @@ use mathlib.Core.Option.{none, some}
 use Prim.Native.Nat.{ℕ, zero, suc, _<_}
 use lib.ListN.{getD, replicate}
 use lib.Dec.{T}
+use lib.IntN.{ℤ}
 use Rattle.residue.specs.Divides.{Divides}
+use Rattle.residue.specs.Residue.{residueOf}
 use Rattle.equations.specs.Lists.{count}
 use Rattle.equations.specs.Vectors.{Vector, Before, First, vectors, combination}
-use Rattle.equations.specs.Equation.{Equation, solves}
+use Rattle.equations.specs.Equation.{Equation, solvesOne, solves}
+use Rattle.equations.specs.Lines.{equationAt}
+use Rattle.equations.specs.Whole.{HoldsWhole}
 use Rattle.equations.specs.Answer.{startOf, isStep, stepAt, stepsOf, leading, rangeOf, rangeProduct}
 use Rattle.equations.specs.Multipliers.{refutes}
 use Rattle.equations.specs.Claim.{Claim, noSolution, from, passes}
@@ -123,3 +127,9 @@ ZeroEquation =
 abbrev pub ContradictoryEquation : Type 0
 ContradictoryEquation =
     (m n k b : ℕ) (es fs : List Equation) → 0 < b → b < m → startOf m n (es ++ (constant k b ∷ fs)) ≡ none
+
+-- Document 02, S-3: an equation of whole numbers holds mod m at just the vectors that solve the equation of their residues.
+abbrev pub ResiduesSolve : Type 0
+ResiduesSolve =
+    (m n : ℕ) (xs : List ℤ) (v : List ℕ) → 0 < m
+    → HoldsWhole m n xs v ↔ T (solvesOne m (equationAt n (map (residueOf m) xs)) v)

@@ -1,3 +1,4 @@
--- Two tables.
+-- Three tables.
 pub mod Starred
 pub mod Typed
+pub mod Signed

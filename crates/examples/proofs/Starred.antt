@@ -9,9 +9,11 @@ use mathlib.Core.Path.{_≡_, refl, sym}
 use Prim.Native.Nat.{ℕ, _*_}
 use native.Mathlib.Omega.{arith}
 use lib.Dec.{T}
+use lib.IntN.{pos}
 use lib.ListN.{length, drop}
 use Rattle.questions.specs.Reply.{memoryAfter}
 use Rattle.residue.specs.Congruent.{Congruent}
+use Rattle.residue.specs.Residue.{residueOf}
 use Rattle.residue.specs.Congruence.{leastOf, solutionsOf}
 use Rattle.residue.specs.Euclid.{euclid}
 use Rattle.residue.specs.Gcd.{gcd}
@@ -70,16 +72,16 @@ abbrev pub marked : List Call → List ℕ → Marked
 marked calls claim = markedOf (ledgerOf (after calls)) claim
 
 -- "m=12: 4t=8 gives 2, spacing 3."
-pub four-t-is-eight : congruenceOf 4 8 12 ≡ Solutions 2 3
-unfolding congruenceOf solutionsOf leastOf gcd euclid
+pub four-t-is-eight : congruenceOf (pos 4) (pos 8) 12 ≡ Solutions 2 3
+unfolding congruenceOf residueOf solutionsOf leastOf gcd euclid
 four-t-is-eight = refl
 
 -- "4t=6: none; 3 is a multiplier, 6 is not."
 abbrev pub fourIsSix : List Equation
 fourIsSix = equation (4 ∷ []) 6 ∷ []
 
-pub four-t-is-six : congruenceOf 4 6 12 ≡ NoSolution
-unfolding congruenceOf solutionsOf gcd euclid
+pub four-t-is-six : congruenceOf (pos 4) (pos 6) 12 ≡ NoSolution
+unfolding congruenceOf residueOf solutionsOf gcd euclid
 four-t-is-six = refl
 
 pub four-t-is-six-none : startOf 12 1 fourIsSix ≡ none
@@ -134,17 +136,17 @@ oneTwoIsZeroCalls = opening 4 2 ∷ adding (1 ∷ 2 ∷ []) 0 ∷ []
 
 pub one-two-is-zero-answered : (x : ℕ)
     → buffer oneTwoIsZeroCalls (x ∷ x ∷ x ∷ x ∷ x ∷ x ∷ x ∷ x ∷ []) ≡ block 3 (0 ∷ 0 ∷ 2 ∷ 1 ∷ 0 ∷ 2 ∷ []) ++ (x ∷ [])
-unfolding sheetFrom fresh sheetAfter ledgerOf bufferAfter memoryAfter refusalOf wordsIn equationsOf answerWords blockOf
+unfolding sheetFrom fresh sheetAfter ledgerOf bufferAfter memoryAfter refusalOf wordsIn residueOf equationsOf answerWords blockOf
     startOf stepsOf stepAt flatten
 one-two-is-zero-answered x = refl
 
 pub step-two-three-marked : marked oneTwoIsZeroCalls (block 2 (0 ∷ 0 ∷ 2 ∷ 3 ∷ [])) ≡ Gets Pass
-unfolding sheetFrom fresh sheetAfter ledgerOf markedOf refusalOf wordsIn equationsOf claimOf vectorsOf markOf
+unfolding sheetFrom fresh sheetAfter ledgerOf markedOf refusalOf wordsIn residueOf equationsOf claimOf vectorsOf markOf
     passes describes
 step-two-three-marked = refl
 
 pub step-zero-two-marked : marked oneTwoIsZeroCalls (block 2 (0 ∷ 0 ∷ 0 ∷ 2 ∷ [])) ≡ Gets Fail
-unfolding sheetFrom fresh sheetAfter ledgerOf markedOf refusalOf wordsIn equationsOf claimOf vectorsOf markOf
+unfolding sheetFrom fresh sheetAfter ledgerOf markedOf refusalOf wordsIn residueOf equationsOf claimOf vectorsOf markOf
     passes describes
 step-zero-two-marked = refl
 
@@ -179,7 +181,7 @@ abbrev pub struckCalls : List Call
 struckCalls = withZeroCalls ++ (enters (strikes 0) ∷ [])
 
 pub two-and-three-answered : (x y z : ℕ) → buffer twoAndThreeCalls (x ∷ y ∷ z ∷ []) ≡ block 1 (5 ∷ []) ++ (z ∷ [])
-unfolding sheetFrom fresh sheetAfter ledgerOf bufferAfter memoryAfter refusalOf wordsIn equationsOf answerWords blockOf
+unfolding sheetFrom fresh sheetAfter ledgerOf bufferAfter memoryAfter refusalOf wordsIn residueOf equationsOf answerWords blockOf
     startOf stepsOf stepAt flatten
 two-and-three-answered x y z = refl
 
@@ -212,7 +214,7 @@ with-zero-refutes =
 -- a block of four words fits a buffer of four
 with-zero-fits : (x : ℕ) (ks : List ℕ) → length ks ≡ 3 → blockOf 6 1 withZero ≡ 0 ∷ ks
     → buffer withZeroCalls (x ∷ x ∷ x ∷ x ∷ []) ≡ word headKind 0 ∷ wordsOf multiplierKind ks
-unfolding sheetFrom fresh sheetAfter ledgerOf bufferAfter memoryAfter refusalOf wordsIn equationsOf answerWords
+unfolding sheetFrom fresh sheetAfter ledgerOf bufferAfter memoryAfter refusalOf wordsIn residueOf equationsOf answerWords
 with-zero-fits x [] l e = absurd (omega arith)
 with-zero-fits x (a ∷ []) l e = absurd (omega arith)
 with-zero-fits x (a ∷ b ∷ []) l e = absurd (omega arith)
@@ -229,12 +231,12 @@ with-zero-answered x = (
 )
 
 pub with-zero-held : ledgerOf (after withZeroCalls) ≡ opened 6 1 withZero
-unfolding sheetFrom fresh sheetAfter ledgerOf refusalOf wordsIn equationsOf
+unfolding sheetFrom fresh sheetAfter ledgerOf refusalOf wordsIn residueOf equationsOf
 with-zero-held = refl
 
 -- "Strike: from 5 again."
 pub struck-answered : (x y z : ℕ) → buffer struckCalls (x ∷ y ∷ z ∷ []) ≡ block 1 (5 ∷ []) ++ (z ∷ [])
-unfolding sheetFrom fresh sheetAfter ledgerOf bufferAfter memoryAfter refusalOf wordsIn equationsOf answerWords blockOf
+unfolding sheetFrom fresh sheetAfter ledgerOf bufferAfter memoryAfter refusalOf wordsIn residueOf equationsOf answerWords blockOf
     startOf stepsOf stepAt flatten
 struck-answered x y z = refl
 

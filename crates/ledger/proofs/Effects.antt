@@ -15,9 +15,10 @@ use Rattle.questions.specs.Questions.{allowedModulus}
 use Rattle.equations.specs.Vectors.{Below}
 use Rattle.equations.specs.Equation.{Equation}
 use Rattle.equations.proofs.Truth.{true-of}
-use Rattle.equations.proofs.Vectors.{vector-below, all-below, below-take, below-at}
-use Rattle.words.specs.Words.{wordsIn, numbersOf}
-use Rattle.words.proofs.Words.{numbers-count}
+use Rattle.equations.proofs.Vectors.{vector-below, below-take, below-at}
+use Rattle.words.specs.Words.{wordsIn}
+use Rattle.words.specs.Signs.{residuesOf}
+use Rattle.words.proofs.Minus.{residues-count, residues-below}
 use Rattle.grammar.specs.Texts.{typedOf, equationIn}
 use Rattle.grammar.proofs.Texts.{passed}
 use Rattle.grammar.proofs.Solutions.{made-length, equation-shaped}
@@ -46,17 +47,17 @@ pub accepted-allows : (l : Ledger) (e : Entry) → refusalOf l (enters e) ≡ 0 
 accepted-allows l (opens ws) none = let yes = accepted-yes l (enters (opens ws)) none in (yes .1 .0, yes .1 .1 .0)
 accepted-allows l (adds ws) none =
     let yes = accepted-yes l (enters (adds ws)) none in
-    let numbers = numbersOf (wordsIn ws) in
+    let m = modulusOf l in
     let n = unknownsOf l in
-    let below = all-below (modulusOf l) numbers .0 (yes .1 .1 .1 .0) in
-    let long : length numbers ≡ n + 1 =
-    numbers-count ws ∙ equation-length n ws (true-of (isEquation n (wordsIn ws)) (yes .1 .0)) in
+    let residues = residuesOf m (wordsIn ws) in
+    let long : length residues ≡ n + 1 =
+    residues-count m ws ∙ equation-length n ws (true-of (isEquation n (wordsIn ws)) (yes .1 .0)) in
     record {
       opened = yes .0;
       under = ltb→lt (length (equationsIn l)) mostEquations (yes .1 .1 .0);
-      shaped = length-take-le n numbers (omega (arith, long));
-      coefficients = λ pos. below-take (modulusOf l) n numbers below;
-      right = λ pos. below-at (modulusOf l) n numbers below (omega (arith, long));
+      shaped = length-take-le n residues (omega (arith, long));
+      coefficients = λ pos. below-take m n residues (residues-below m (wordsIn ws) pos);
+      right = λ pos. below-at m n residues (residues-below m (wordsIn ws) pos) (omega (arith, long));
     }
 accepted-allows l (types text) none =
     let yes = accepted-yes l (enters (types text)) none in

@@ -20,8 +20,9 @@ use Rattle.equations.proofs.Truth.{true-of}
 use Rattle.equations.proofs.Vectors.{all-below}
 use Rattle.system.specs.Claims.{Claimed}
 use Rattle.words.specs.Words.{wordsIn, kindsOf, numbersOf, haveKinds, modulusKind, unknownsKind, coefficientKind, rightKind, headKind, entryKind}
+use Rattle.words.specs.Signs.{plainKindsOf}
 use Rattle.words.proofs.Compared.{kinds-length}
-use Rattle.words.proofs.Words.{kinds-count, numbers-count}
+use Rattle.words.proofs.Words.{plainKindOf, parts-count, kinds-count, numbers-count}
 use Rattle.ledger.specs.Shapes.{numberAt, isOpening, isEquation, isClaim, entriesOf, largestHead}
 
 -- as many words as kinds
@@ -37,7 +38,9 @@ equation-kinds n =
     ∙ ap (λ (k : ℕ). k + 1) (length-replicate n coefficientKind)
 
 pub equation-length : (n : ℕ) (ws : List ℕ) → isEquation n (wordsIn ws) ≡ true → length ws ≡ n + 1
-equation-length n ws shape = have-length ws (replicate n coefficientKind ++ (rightKind ∷ [])) shape ∙ equation-kinds n
+equation-length n ws shape =
+    sym (parts-count plainKindOf ws)
+    ∙ kinds-length (plainKindsOf (wordsIn ws)) (replicate n coefficientKind ++ (rightKind ∷ [])) shape ∙ equation-kinds n
 
 module _ (n : ℕ) (ws : List ℕ) (shape : T (isClaim n (wordsIn ws))) where
   abbrev head : ℕ

@@ -20,7 +20,7 @@ pub data Effect : Type 0 where
 
 abbrev pub effectOf : Ledger → Entry → Effect
 effectOf l (opens ws) = begins (numberAt (wordsIn ws) 0) (numberAt (wordsIn ws) 1)
-effectOf l (adds ws) = gains (equationFrom (unknownsOf l) (wordsIn ws))
+effectOf l (adds ws) = gains (equationFrom (modulusOf l) (unknownsOf l) (wordsIn ws))
 -- "The unknowns' coefficients, brought to the left, and the plain numbers, brought to the right, all mod m, make the equation added."
 effectOf l (types text) = gains (equationIn (modulusOf l) (unknownsOf l) (typedOf text))
 -- "Accepted strike: the last equation goes."

@@ -8,7 +8,7 @@ use lib.ListN.{length}
 use Rattle.questions.specs.Questions.{Question, asks, firstNo, allowedModulus}
 use Rattle.questions.specs.Reply.{fits}
 use Rattle.equations.specs.Multipliers.{allBelow}
-use Rattle.words.specs.Words.{wordOf, wordsIn, numbersOf}
+use Rattle.words.specs.Words.{wordOf, wordsIn}
 use Rattle.grammar.specs.Texts.{isTyped, isWithin, isLinear}
 use Rattle.ledger.specs.Ledger.{Ledger, isOpened, modulusOf, unknownsOf, equationsIn, mostEquations, mostUnknowns}
 use Rattle.ledger.specs.Shapes.{numberAt, isOpening, isEquation, isClaim, entriesOf}
@@ -30,12 +30,11 @@ questions l (enters (opens ws)) =
     ∷ asks 2 (allowedModulus (numberAt (wordsIn ws) 0))
     ∷ asks 3 (allowedUnknowns (numberAt (wordsIn ws) 1))
     ∷ []
--- "Add: opened? 4. Shape right, length included? 1. Under 16 equations? 5. All numbers below m? 6."
+-- "Add: opened? 4. Shape right, length included? 1. Under 16 equations? 5."; "Adding .. no longer refuse[s] with 6"
 questions l (enters (adds ws)) =
     asks 4 (isOpened l)
     ∷ asks 1 (isEquation (unknownsOf l) (wordsIn ws))
     ∷ asks 5 (ltb (length (equationsIn l)) mostEquations)
-    ∷ asks 6 (allBelow (modulusOf l) (numbersOf (wordsIn ws)))
     ∷ []
 -- "after 4, not in the grammar or too long 11; then an unknown beyond n 12; then not linear 13; then 5"
 questions l (enters (types text)) =
@@ -60,7 +59,7 @@ questions l (queries (marks ws)) =
     ∷ asks 1 (isClaim (unknownsOf l) (wordsIn ws))
     ∷ asks 6 (allBelow (modulusOf l) (entriesOf (wordsIn ws)))
     ∷ []
--- "A first word of kind 0, 2, 4, 6, 7 or 10..15 is refused with 1, opened or not."
+-- "A first word of kind 0, 2, 4, 6, 7 or 10..15 is refused with 1, opened or not.": all of these but 10, which begins an add
 questions l (queries (meaningless w)) = asks 1 false ∷ []
 
 -- the number of the question that turns the call away, or 0 where it is accepted

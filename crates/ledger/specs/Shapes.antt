@@ -4,12 +4,14 @@ use mathlib.Core.List.{List, [], _∷_, _++_}
 use Prim.Native.Nat.{ℕ, _+_, _*_}
 use lib.Dec.{leb}
 use lib.ListN.{drop, getD, replicate}
+use Rattle.equations.specs.Vectors.{sameVector}
 use Rattle.equations.specs.Equation.{Equation}
 use Rattle.equations.specs.Lines.{equationAt}
 use Rattle.equations.specs.Claim.{Claim}
 use Rattle.system.specs.Claims.{claimOf}
 use Rattle.words.specs.declared.unpacking.Word.{Word}
 use Rattle.words.specs.Words.{numbersOf, haveKinds, modulusKind, unknownsKind, coefficientKind, rightKind, headKind, entryKind}
+use Rattle.words.specs.Signs.{plainKindsOf, residuesOf}
 
 -- the number of the i-th word
 abbrev pub numberAt : List Word → ℕ → ℕ
@@ -19,12 +21,13 @@ numberAt words i = getD (numbersOf words) i 0
 abbrev pub isOpening : List Word → Bool
 isOpening words = haveKinds words (modulusKind ∷ unknownsKind ∷ [])
 
--- "Equation: n of kind 3, one of kind 4."
+-- "Equation: n of kind 3, one of kind 4."; kinds 10 and 11 "may stand wherever 3 and 4 may"
 abbrev pub isEquation : ℕ → List Word → Bool
-isEquation n words = haveKinds words (replicate n coefficientKind ++ (rightKind ∷ []))
+isEquation n words = sameVector (plainKindsOf words) (replicate n coefficientKind ++ (rightKind ∷ []))
 
-abbrev pub equationFrom : ℕ → List Word → Equation
-equationFrom n words = equationAt n (numbersOf words)
+-- the equation that lies in well-formed words, mod m: "The ledger holds residues"
+abbrev pub equationFrom : ℕ → ℕ → List Word → Equation
+equationFrom m n words = equationAt n (residuesOf m words)
 
 -- 1 for the starting vector, and 1 for each of so many steps as there can be places
 abbrev pub largestHead : ℕ

@@ -33,9 +33,9 @@ use Rattle.tape.specs.Output.{mostBytes, lines}
 abbrev pub minus : ℕ → ℤ
 minus k = negℤ (pos k)
 
--- 10,000 times the major, 100 times the minor and the patch number: 1.0.0
+-- 10,000 times the major, 100 times the minor and the patch number: 2.0.0
 abbrev pub version : ℕ
-version = 10100
+version = 20000
 
 -- What the calls on a sheet give back, as a result: "the equations then held", how many words the block has, or 1 for a pass and 0 for
 -- a fail; or minus the number of the refusal.
@@ -66,7 +66,7 @@ solvedReply (Refused k) = refuses k
 solvedReply NoSolution = gives (pos 0) []
 solvedReply (Solutions t spacing) = gives (pos 1) (t ∷ spacing ∷ [])
 
-abbrev pub congruenceReply : ℕ → ℕ → ℕ → Reply ℤ
+abbrev pub congruenceReply : ℤ → ℤ → ℕ → Reply ℤ
 congruenceReply a b m = solvedReply (congruenceOf a b m)
 
 -- the largest modulus of a system: any that 32 bits hold

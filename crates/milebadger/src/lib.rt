@@ -27,8 +27,8 @@ const FEW: u32 = 4;
 
 const FEW_NUMBERS: usize = 20;
 
-// The header's: 10,000 · 1 + 100 · 0 + 0.
-const VERSION: u32 = 10100;
+// The header's: 10,000 · 2 + 100 · 0 + 0.
+const VERSION: u32 = 20000;
 
 #[no_mangle]
 pub extern "C" fn milebadger_version() -> u32
@@ -47,9 +47,9 @@ pub extern "C" fn milebadger_gcd(a: u32, b: u32, out: &mut [u32]) -> i64
     give(1, &numbers, out)
 }
 
-// One congruence a·t = b mod m: its least solution and the spacing of its solutions.
+// One congruence a·t = b mod m, for signed a and b: its least solution and the spacing of its solutions.
 #[no_mangle]
-pub extern "C" fn milebadger_congruence(a: u32, b: u32, m: u32, out: &mut [u32]) -> i64
+pub extern "C" fn milebadger_congruence(a: i32, b: i32, m: u32, out: &mut [u32]) -> i64
     ensures { λ r. ⌜ Replied (congruenceReply a b m) (now (out .entry)) (now (out .exit)) r ⌝ }
 {
     let solved = solve_one(a, b, m);

@@ -3,14 +3,16 @@ use mathlib.Core.Path.{_≡_}
 use Prim.Native.Nat.{ℕ, _*_, _/_, _%_, _≤_, _<_}
 use native.Mathlib.Decide.{decLe}
 use native.Mathlib.Omega.{arith}
+use Rattle.residue.specs.Congruent.{Congruent}
 use Rattle.residue.specs.Bezout.{cofactors}
 use Rattle.residue.specs.Gcd.{gcd}
 use Rattle.residue.specs.Congruence.{solutionsOf}
-use Rattle.residue.specs.Promises.{GreatestDivisor, ShortChain, NoneByDivisor, NoneExactly, Describes, LeastAndSpacing}
+use Rattle.residue.specs.Promises.{GreatestDivisor, ShortChain, ResidueOf, MinusOneAndZero, NoneByDivisor, NoneExactly, Describes, LeastAndSpacing}
 use Rattle.residue.specs.declared.congruence.Solutions.the-variants.{NoSolution}
 use Rattle.residue.proofs.Divides.{divides-of-remainder, remainder-of-divides}
 use Rattle.residue.proofs.Gcd.{gcd-divides-left, gcd-divides-right, gcd-greatest}
 use Rattle.residue.proofs.Lame.{lame}
+use Rattle.residue.proofs.Residue as R
 use Rattle.residue.proofs.Solutions.{solution-divides, solutions-are, solutions-describe, solutions-none}
 
 pub greatest-divisor : GreatestDivisor
@@ -18,6 +20,12 @@ greatest-divisor a b = (gcd-divides-left a b, gcd-divides-right a b, gcd-greates
 
 pub short-chain : ShortChain
 short-chain = lame
+
+pub residue-of : ResidueOf
+residue-of = R.residue-of
+
+pub minus-one-and-zero : MinusOneAndZero
+minus-one-and-zero m h = (R.minus-one m h, R.minus-zero m)
 
 -- an answer is not both
 not-both : (a b m : ℕ) → 0 < m → b % gcd a m ≡ 0 → solutionsOf a b m ≡ NoSolution → ⊥
@@ -38,7 +46,7 @@ none-exactly a b m pos = (
 pub least-and-spacing : LeastAndSpacing
 least-and-spacing a b m t spacing pos e = go (decLe (b % gcd a m) 0)
   where
-    go : Dec (b % gcd a m ≤ 0) → Describes a b m t spacing
+    go : Dec (b % gcd a m ≤ 0) → Describes (λ u. Congruent m (a * u) b) m t spacing
     go (yes l) =
         let h : b % gcd a m ≡ 0 = omega arith in
         let p : t ≡ cofactors m a m .s * (b / gcd a m) % (m / gcd a m) = cc (solutions-are a b m pos h) in

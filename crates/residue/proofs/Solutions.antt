@@ -87,7 +87,7 @@ module _ (a b m g q p s t k : ℕ) (pos : 0 < m) (left : a ≡ g * q) (right : m
   multiple-more : (t r j : ℕ) → Congruent p t r → Congruent p (t + j * p) r
   multiple-more t r j h = congruent-trans (congruent-of 0 j (omega arith)) h
 
-  pub describes : Describes a b m (s * k % p) p
+  pub describes : Describes (λ u. Congruent m (a * u) b) m (s * k % p) p
   describes = record {
     solves = solution-of (s * k % p) (congruent-mod p (s * k));
     small = least-below;
@@ -117,7 +117,8 @@ module _ (a b m : ℕ) (pos : 0 < m) (divided : b % gcd a m ≡ 0) where
             (z .left) (z .right) (z .one) quotient-of,
       )
 
-  pub solutions-describe : Describes a b m (cofactors m a m .s * (b / gcd a m) % (m / gcd a m)) (m / gcd a m)
+  pub solutions-describe :
+      Describes (λ u. Congruent m (a * u) b) m (cofactors m a m .s * (b / gcd a m) % (m / gcd a m)) (m / gcd a m)
   solutions-describe =
       let z = cofactors-bezout m a m pos in
       rw spacing

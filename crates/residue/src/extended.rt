@@ -1,12 +1,10 @@
 // Euclid's chain with cofactors, as residues: for the quotients q and p of a pair by its divisor, s·q + t·p ≡ 1 (mod m).
 ghost use mathlib.Core.Path.{_≡_};
-ghost use mathlib.Core.Bool.{cond};
-ghost use Prim.Native.Nat.{_+_, _*_, _%_, _<_};
+ghost use Prim.Native.Nat.{_+_, _*_, _<_};
 ghost use Rattle.residue.specs.Cofactors.{bezoutOf};
-ghost use Rattle.residue.specs.Negative.{negative};
 use super::division::divide;
-use super::modular::opposite;
-use super::modular::remainder;
+use super::modular::signed;
+use super::modular::wide;
 
 pub struct Bezout {
     pub divisor: u32,
@@ -18,9 +16,10 @@ pub struct Bezout {
 }
 
 // One pass over the chain, with one division in each step and no remainder by m before its end: without their signs the cofactors
-// never exceed a and b, and the signs alternate, so that one bit keeps them. The last division of most chains is one by 1, and is not
-// made. b is given as rest + quotient·a: whoever has divided b by a does not divide again, and whoever has not gives (0, b). Where
-// the chain ends with 0, the next cofactors would be the quotients of b and a by the divisor.
+// never exceed a and b, and the signs alternate, so that one bit keeps them: after an odd number of divisions s is the negative
+// one, else t. The last division of most chains is one by 1, and is not made. b is given as rest + quotient·a: whoever has divided
+// b by a does not divide again, and whoever has not gives (0, b). Where the chain ends with 0, the next cofactors would be the
+// quotients of b and a by the divisor.
 pub fn cofactors(m: u32, a: u32, b: u32, quotient: u32, rest: u32) -> Bezout
     requires { ⌜ (0 < m) × (0 < rest) × (b ≡ rest + quotient * a) × (0 < quotient → rest < a) ⌝ }
     ensures { λ r. ⌜ r ≡ bezoutOf m a b ⌝ }
@@ -49,27 +48,18 @@ pub fn cofactors(m: u32, a: u32, b: u32, quotient: u32, rest: u32) -> Bezout
     if y == 1 {
         Bezout {
             divisor: 1,
-            s: signed(s_next, !odd, m),
-            t: signed(t_next, odd, m),
+            s: signed(wide(s_next), !odd, m),
+            t: signed(wide(t_next), odd, m),
             q: a,
             p: b,
         }
     } else {
         Bezout {
             divisor: x,
-            s: signed(s, odd, m),
-            t: signed(t, !odd, m),
+            s: signed(wide(s), odd, m),
+            t: signed(wide(t), !odd, m),
             q: t_next,
             p: s_next,
         }
     }
-}
-
-// A cofactor with its sign: after an odd number of divisions s is the negative one, else t.
-fn signed(size: u32, minus: bool, m: u32) -> u32
-    requires { ⌜ 0 < m ⌝ }
-    ensures { λ r. ⌜ (r ≡ cond minus (negative m size % m) (size % m)) × (r < m) ⌝ }
-{
-    let residue = remainder(size, m);
-    if minus { opposite(residue, m) } else { residue }
 }

@@ -1,9 +1,12 @@
 // Residue arithmetic: numbers of 32 bits, sums and products of 64 bits, and one equation with `%` for each function. The
 // result is always below m; what a function asks of its arguments is only what it computes with.
 ghost use mathlib.Core.Path.{_≡_};
+ghost use mathlib.Core.Bool.{cond};
 ghost use Prim.Native.Nat.{_+_, _-_, _*_, _/_, _%_, _≤_, _<_};
+ghost use lib.IntN.{natAbs};
 ghost use Rattle.residue.specs.Inverse.{inverseOf};
 ghost use Rattle.residue.specs.Negative.{negative};
+ghost use Rattle.residue.specs.Residue.{residueOf};
 
 // Both numbers are residues, so that no division is made.
 pub fn add(a: u32, b: u32, m: u32) -> u32
@@ -17,11 +20,11 @@ pub fn negate(a: u32, m: u32) -> u32
     requires { ⌜ 0 < m ⌝ }
     ensures { λ r. ⌜ (r ≡ negative m a % m) × (r < m) ⌝ }
 {
-    opposite(remainder(a, m), m)
+    opposite(remainder(a as u64, m), m)
 }
 
 // The negative of a residue.
-pub(crate) fn opposite(a: u32, m: u32) -> u32
+fn opposite(a: u32, m: u32) -> u32
     requires { ⌜ a < m ⌝ }
     ensures { λ r. ⌜ (r ≡ negative m a % m) × (r < m) ⌝ }
 {
@@ -29,11 +32,38 @@ pub(crate) fn opposite(a: u32, m: u32) -> u32
 }
 
 // Most numbers are residues already, and then no division is made.
-pub(crate) fn remainder(a: u32, m: u32) -> u32
+fn remainder(x: u64, m: u32) -> u32
     requires { ⌜ 0 < m ⌝ }
-    ensures { λ r. ⌜ (r ≡ a % m) × (r < m) ⌝ }
+    ensures { λ r. ⌜ (r ≡ x % m) × (r < m) ⌝ }
 {
-    if a < m { a } else { a % m }
+    if x < wide(m) { x as u32 } else { reduce(x, m) }
+}
+
+// The residue of a signed number, by its size and its sign.
+pub fn residue(x: i64, m: u32) -> u32
+    requires { ⌜ 0 < m ⌝ }
+    ensures { λ r. ⌜ (r ≡ residueOf m x) × (r < m) ⌝ }
+{
+    signed(size(x), x < 0, m)
+}
+
+// A number without its sign. The least number of 64 bits has no negative there: 1 is added before its sign is changed, and again
+// behind that.
+fn size(number: i64) -> u64
+    ensures { λ r. ⌜ r ≡ natAbs number ⌝ }
+{
+    if number < 0 {
+        return (-(number + 1)) as u64 + 1;
+    }
+    number as u64
+}
+
+pub(crate) fn signed(size: u64, minus: bool, m: u32) -> u32
+    requires { ⌜ 0 < m ⌝ }
+    ensures { λ r. ⌜ (r ≡ cond minus (negative m size % m) (size % m)) × (r < m) ⌝ }
+{
+    let residue = remainder(size, m);
+    if minus { opposite(residue, m) } else { residue }
 }
 
 pub fn mul(a: u32, b: u32, m: u32) -> u32

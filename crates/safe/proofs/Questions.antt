@@ -23,8 +23,8 @@ use Rattle.equations.proofs.Truth.{true-of}
 use Rattle.equations.proofs.Vectors.{all-below}
 use Rattle.words.specs.Words.{entryKind, wordsIn, kindsOf, numbersOf, haveKinds}
 use Rattle.words.proofs.Compared.{kinds-length}
-use Rattle.words.proofs.Words.{kinds-count, numbers-count}
-use Rattle.words.proofs.Unpacked.{kinds-seen, numbers-seen}
+use Rattle.words.proofs.Words.{kindOf, numberOf, kinds-count, numbers-count}
+use Rattle.words.proofs.Unpacked.{kinds-seen, parts-seen}
 use Rattle.safe.specs.Calls.{mostLocks, allowedSize, argumentQuestions}
 use Rattle.safe.specs.Model.Handed.{valuesRoom, Lockable}
 
@@ -72,8 +72,8 @@ module _ (rows columns : ℕ) where
     kinds-asked {locks} is front =
         let all : locks ≡ rows * columns = is ∙ rw (true-of (allowedSize rows columns) size) in
         ap (λ (n : ℕ). sameVector (take r new) (replicate n entryKind)) all
-        ∙ kinds-seen valuesRoom values old count wanted
-        (omega (arith, length-replicate (rows * columns) entryKind, size-allowed rows columns size .2)) front
+        ∙ kinds-seen kindOf valuesRoom values old front count wanted
+        (omega (arith, length-replicate (rows * columns) entryKind, size-allowed rows columns size .2))
 
     pub numbers-asked : (m : ℕ) → T (haveKinds (wordsIn values) wanted)
         → new ≡ over (take valuesRoom (numbersOf (wordsIn values))) old
@@ -81,7 +81,7 @@ module _ (rows columns : ℕ) where
     numbers-asked m shape front =
         let few : length values ≤ mostLocks =
         omega (arith, values-count (rows * columns) values shape, size-allowed rows columns size .2) in
-        ap (allBelow m) (numbers-seen valuesRoom values old count front (omega (arith, few)))
+        ap (allBelow m) (parts-seen numberOf valuesRoom values old front count (omega (arith, few)))
 
 -- ---- a safe that is let in
 

@@ -1,9 +1,10 @@
 -- What open, add and strike give back.
 --   entry-refused                   the number of the question that turned the call away, and the sheet as it was
 --   open-is, open-accepted          an accepted opening has two words
+--   modulus-some                    an opened sheet has a modulus
 --   gain-opened, gain-under, gain-width, gain-accepted   there is room for the line of an accepted equation, and it is written
---   line-long, line-seen, line-lies   which is seen in the numbers of its words,
---   modulus-some, typed-lies          or is what the reader gives
+--   line-long, line-seen, line-lies   which has the residues of its words,
+--   typed-lies                        or is what the reader gives
 --   strike-opened, strike-some, strike-place, strike-accepted   an accepted strike has an equation to strike
 use mathlib.Core.Path.{_≡_, refl, sym, ap, ap₂, subst, _∙_}
 use mathlib.Core.List.{List}
@@ -15,19 +16,22 @@ use lib.Dec.{T}
 use lib.ListN.{length, take, getD, replicate}
 use Rattle.slices.specs.Over.{over}
 use Rattle.slices.proofs.Over.{over-front}
+use Rattle.questions.proofs.Questions.{AllYes}
 use Rattle.equations.specs.Equation.{Equation}
 use Rattle.equations.specs.Lines.{equationAt}
 use Rattle.equations.proofs.Lines.{equation-front}
 use Rattle.equations.proofs.Truth.{true-of}
 use Rattle.words.specs.Words.{wordsIn, numbersOf}
-use Rattle.words.proofs.Words.{numbers-count}
-use Rattle.words.proofs.Unpacked.{all-seen, number-seen}
+use Rattle.words.specs.Signs.{residuesOf}
+use Rattle.words.proofs.Words.{numberOf, residueIn, numbers-count}
+use Rattle.words.proofs.Minus.{residues-count}
+use Rattle.words.proofs.Unpacked.{all-seen, part-seen}
 use Rattle.grammar.specs.Tree.{Sides}
 use Rattle.grammar.specs.Texts.{equationIn}
 use Rattle.ledger.specs.Ledger.{unopened, isOpened, modulusOf, unknownsOf, equationsIn, mostEquations}
 use Rattle.ledger.specs.Shapes.{numberAt, isOpening, isEquation, equationFrom}
 use Rattle.ledger.specs.Calls.{Entry, opens, adds, strikes, enters}
-use Rattle.ledger.specs.Questions.{refusalOf}
+use Rattle.ledger.specs.Questions.{questions, refusalOf}
 use Rattle.ledger.specs.History.{Effect, gains, loses, effectOf, changed}
 use Rattle.ledger.proofs.Shapes.{opening-length, equation-length}
 use Rattle.ledger.proofs.Questions.{opens-any, accepted-yes}
@@ -74,7 +78,7 @@ module _ (ws : List ℕ) (number : ℕ) (is : number ≡ refusalOf unopened (ent
         ∙ opening-length ws (true-of (isOpening (wordsIn ws)) (accepted-yes unopened (enters (opens ws)) (sym is ∙ none) .0))
 
     number-is : (i : ℕ) → i < 2 → getD new i 0 ≡ numberAt (wordsIn ws) i
-    number-is i at = number-seen openingRoom ws old seen i (omega arith) (omega (arith, two, numbers-count ws))
+    number-is i at = part-seen numberOf openingRoom ws old seen i (omega arith) (omega (arith, two, numbers-count ws))
 
     pub open-accepted : (s : Sheet) {after : Sheet} → after ≡ sheetOf (getD new 0 0) (getD new 1 0) 0 (replicate room 0)
         → (Holds 0 ≡ enteredOf (ledgerOf s) (opens ws)) × (after ≡ sheetAfter s (opens ws))
@@ -83,6 +87,11 @@ module _ (ws : List ℕ) (number : ℕ) (is : number ≡ refusalOf unopened (ent
         (made ∙ ap₂ (λ (m n : ℕ). sheetOf m n 0 (replicate room 0)) (number-is 0 (omega arith)) (number-is 1 (omega arith)))
 
 -- ---- an equation more
+
+-- what an opened sheet is seen to have is a modulus
+pub modulus-some : (s : Sheet) {seen : Seen} → Sees (ledgerOf s) seen → T (seen .opened) → 0 < seen .modulus
+modulus-some s sees is =
+    omega (arith, sees .modulus, reads-allowed s (subst T (sees .opened) is) .modulus)
 
 module _ (s : Sheet) (e : Entry) (gained : Equation) (effect : effectOf (ledgerOf s) e ≡ gains gained) {seen : Seen}
     (sees : Sees (ledgerOf s) seen) (number : ℕ) (is : number ≡ refusalOf (ledgerOf s) (enters e)) (none : number ≡ 0) where
@@ -115,29 +124,32 @@ module _ (s : Sheet) (e : Entry) (gained : Equation) (effect : effectOf (ledgerO
 
 module _ (s : Sheet) (ws : List ℕ) {seen : Seen} (sees : Sees (ledgerOf s) seen) (number : ℕ)
     (is : number ≡ refusalOf (ledgerOf s) (enters (adds ws))) (none : number ≡ 0) (old : List ℕ) {new : List ℕ}
-    (front : new ≡ over (take equationRoom (numbersOf (wordsIn ws))) old) where
-  pub line-long : length (numbersOf (wordsIn ws)) ≡ seen .unknowns + 1
+    (front : T (seen .opened) → new ≡ over (take equationRoom (residuesOf (seen .modulus) (wordsIn ws))) old) where
+  asked : AllYes (questions (ledgerOf s) (enters (adds ws)))
+  asked = accepted-yes (ledgerOf s) (enters (adds ws)) (sym is ∙ none)
+
+  abbrev residues : List ℕ
+  residues = residuesOf (seen .modulus) (wordsIn ws)
+
+  pub line-long : length (residuesOf (seen .modulus) (wordsIn ws)) ≡ seen .unknowns + 1
   line-long =
-      numbers-count ws
-      ∙ equation-length (unknownsOf (ledgerOf s)) ws
-      (true-of (isEquation (unknownsOf (ledgerOf s)) (wordsIn ws)) (accepted-yes (ledgerOf s) (enters (adds ws)) (sym is ∙ none) .1 .0))
+      residues-count (seen .modulus) ws
+      ∙ equation-length (unknownsOf (ledgerOf s)) ws (true-of (isEquation (unknownsOf (ledgerOf s)) (wordsIn ws)) (asked .1 .0))
       ∙ ap (λ (k : ℕ). k + 1) (sym (sees .unknowns))
 
-  pub line-seen : take (seen .unknowns + 1) new ≡ numbersOf (wordsIn ws)
+  pub line-seen : take (seen .unknowns + 1) new ≡ residuesOf (seen .modulus) (wordsIn ws)
   line-seen =
       let few = unknowns-few s in
-      over-front (seen .unknowns + 1) (numbersOf (wordsIn ws)) old
-      (all-seen equationRoom ws old front (omega (arith, line-long, numbers-count ws, sees .unknowns))) line-long
+      over-front (seen .unknowns + 1) residues old
+      (all-seen (residueIn (seen .modulus)) equationRoom ws old (front (subst T (sym (sees .opened)) (asked .0)))
+      (omega (arith, line-long, residues-count (seen .modulus) ws, sees .unknowns))) line-long
 
-  pub line-lies : equationAt (seen .unknowns) (take (seen .unknowns + 1) new) ≡ equationFrom (unknownsOf (ledgerOf s)) (wordsIn ws)
-  line-lies = ap₂ equationAt (sees .unknowns) line-seen
+  pub line-lies : equationAt (seen .unknowns) (take (seen .unknowns + 1) new)
+      ≡ equationFrom (modulusOf (ledgerOf s)) (unknownsOf (ledgerOf s)) (wordsIn ws)
+  line-lies =
+      ap₂ equationAt (sees .unknowns) (line-seen ∙ ap (λ (m : ℕ). residuesOf m (wordsIn ws)) (sees .modulus))
 
 -- ---- a typed equation
-
--- what an opened sheet is seen to have is a modulus
-pub modulus-some : (s : Sheet) {seen : Seen} → Sees (ledgerOf s) seen → T (seen .opened) → 0 < seen .modulus
-modulus-some s sees is =
-    omega (arith, sees .modulus, reads-allowed s (subst T (sees .opened) is) .modulus)
 
 -- the line of what is typed, at the front of more numbers
 pub typed-lies : (s : Sheet) (x : Option Sides) {seen : Seen} → Sees (ledgerOf s) seen → (line : List ℕ)

@@ -12,5 +12,7 @@ pub mod MarkGiven
 pub mod History
 pub mod Answers
 pub mod Marks
+pub mod Said
+pub mod Added
 pub mod Typed
 pub mod Promises

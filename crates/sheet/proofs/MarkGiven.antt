@@ -20,8 +20,8 @@ use Rattle.equations.specs.Equation.{Equation}
 use Rattle.equations.specs.Claim.{passes, markOf}
 use Rattle.system.specs.Claims.{Claimed, claimOf}
 use Rattle.words.specs.Words.{wordsIn, numbersOf}
-use Rattle.words.proofs.Words.{numbers-count}
-use Rattle.words.proofs.Unpacked.{all-seen, number-seen}
+use Rattle.words.proofs.Words.{numberOf, numbers-count}
+use Rattle.words.proofs.Unpacked.{all-seen, part-seen}
 use Rattle.ledger.specs.Ledger.{Ledger, isOpened, modulusOf, unknownsOf, equationsIn, mostUnknowns}
 use Rattle.ledger.specs.Shapes.{numberAt, isClaim, entriesOf}
 use Rattle.ledger.specs.Block.{longestBlock}
@@ -58,10 +58,10 @@ module _ (l : Ledger) (ws : List ℕ) (accepted : refusalOf l (queries (marks ws
     long = numbers-count ws ∙ claim-length (unknownsOf l) ws shape
 
     front : new ≡ over all old
-    front = all-seen claimRoom ws old seen (omega (arith, claim-fits (unknownsOf l) ws shape few))
+    front = all-seen numberOf claimRoom ws old seen (omega (arith, claim-fits (unknownsOf l) ws shape few))
 
     head-is : getD new 0 0 ≡ numberAt (wordsIn ws) 0
-    head-is = number-seen claimRoom ws old seen 0 (omega arith) (claim-some (unknownsOf l) ws shape)
+    head-is = part-seen numberOf claimRoom ws old seen 0 (omega arith) (claim-some (unknownsOf l) ws shape)
 
     end-is : getD new 0 0 * unknownsOf l + 1 ≡ length all
     end-is = ap (λ (k : ℕ). k * unknownsOf l + 1) head-is ∙ add-one _ ∙ sym long

@@ -3,7 +3,8 @@
 --   demand3             so they are after every list with an accepted opening
 --   decided-always      after every list of calls the ledger's questions decide the next one
 --   own-block-passes    an answer's own block passes
---   typed-always        a typed equation is turned away or added as document 02 says
+--   added-always        an equation in words is added as document 02 says, minus signs and large numbers included,
+--   typed-always        and a typed one is turned away or added so
 --   zeros-are-fresh     zeroed memory is a fresh sheet
 --   reads-on            calls go on from what the memory reads as
 use mathlib.Core.Path.{_≡_, refl, ap, ap₂, subst, sym, _∙_}
@@ -36,12 +37,13 @@ use Rattle.sheet.specs.declared.marking.Marked.the-variants.{Gets}
 use Rattle.sheet.specs.Record.{Sheet, fresh, ledgerOf}
 use Rattle.sheet.specs.Calls.{enteredOf, answeredOf, bufferAfter, shownOf, markedOf}
 use Rattle.sheet.specs.History.{sheetFrom, after}
-use Rattle.sheet.specs.Promises.{NothingSolves, Shows, RightMark, RightSheet, Demand3, DecidedAlways, OwnBlockPasses, ZerosAreFresh, RightAlways, ReadsOn, TypedAlways}
+use Rattle.sheet.specs.Promises.{NothingSolves, Shows, RightMark, RightSheet, Demand3, DecidedAlways, OwnBlockPasses, ZerosAreFresh, RightAlways, ReadsOn, AddedAlways, TypedAlways}
 use Rattle.sheet.proofs.Reading.{reads-allowed}
 use Rattle.sheet.proofs.History.{from-reads, fresh-unopened, after-reads, left-refused}
 use Rattle.sheet.proofs.Solved.{solved-words, shown-block}
 use Rattle.sheet.proofs.Answers.{answered-short, answered-wrote, answered-asked, buffer-asked, shown-refusal, right-block}
 use Rattle.sheet.proofs.Marks.{right-mark, own-mark}
+use Rattle.sheet.proofs.Added.{right-adding}
 use Rattle.sheet.proofs.Typed.{right-typing}
 
 -- ---- demand 3
@@ -109,6 +111,9 @@ demand3 calls (before, ws, rest, is, accepted) =
       holds = o .3;
       right = right-sheet (after calls) (o .0) (o .1) (o .2) (after-reads calls ∙ o .3);
     }
+
+pub added-always : AddedAlways
+added-always s m n es ws reads = right-adding s m n es ws reads (positive s m n es reads)
 
 pub typed-always : TypedAlways
 typed-always s m n es text reads = right-typing s m n es text reads (positive s m n es reads)

@@ -1,12 +1,9 @@
 -- What is said of a typed equation, `right-typing`, where the ledger that a sheet reads as is opened.
-use mathlib.Core.Path.{_≡_, refl, sym, ap, subst, _∙_}
+use mathlib.Core.Path.{_≡_, sym, ap, subst, _∙_}
 use mathlib.Core.Logic.{_↔_}
-use mathlib.Core.Bool.{Bool, true, false, cond}
-use mathlib.Core.List.{List, [], _∷_, _++_}
+use mathlib.Core.List.{List}
 use Prim.Native.Nat.{ℕ, _<_}
-use native.Mathlib.Omega.{arith}
-use borrow.Author.Tests.{eqb-true}
-use lib.Dec.{T, eqb}
+use lib.Dec.{T}
 use Rattle.equations.specs.Equation.{Equation, solvesOne}
 use Rattle.grammar.specs.Tree.{Sides}
 use Rattle.grammar.specs.Grammar.{Typed}
@@ -18,31 +15,14 @@ use Rattle.grammar.proofs.Promises.{holds-exactly}
 use Rattle.ledger.specs.Ledger.{Ledger, opened}
 use Rattle.ledger.specs.Calls.{types, enters}
 use Rattle.ledger.specs.Questions.{refusalOf}
-use Rattle.ledger.specs.History.{enter}
+use Rattle.ledger.specs.History.{gains}
 use Rattle.ledger.proofs.Questions.{accepted-yes}
-use Rattle.ledger.proofs.Effects.{enter-accepted}
 use Rattle.ledger.proofs.Typing.{eleven-given}
-use Rattle.sheet.specs.declared.Entered.the-variants.{Holds, Refused}
+use Rattle.sheet.specs.declared.Entered.the-variants.{Refused}
 use Rattle.sheet.specs.Record.{Sheet, ledgerOf}
 use Rattle.sheet.specs.Calls.{enteredOf}
 use Rattle.sheet.specs.Promises.{NoEquation, RightTyping}
-use Rattle.sheet.proofs.Turns.{reads-after}
-
--- ---- what a call says, and the number of its refusal
-
-refused-is : (r k j : ℕ) → cond (eqb r 0) (Holds k) (Refused r) ≡ Refused j → r ≡ j
-refused-is r k j = by (eqb r 0)
-  where
-    by : (b : Bool) → cond b (Holds k) (Refused r) ≡ Refused j → r ≡ j
-    by true is = let z : _≡_ {A = ℕ} 0 1 = cc in absurd (omega arith)
-    by false is = cc
-
-holds-is : (r k j : ℕ) → cond (eqb r 0) (Holds k) (Refused r) ≡ Holds j → r ≡ 0
-holds-is r k j = by (eqb r 0) refl
-  where
-    by : (b : Bool) → eqb r 0 ≡ b → cond b (Holds k) (Refused r) ≡ Holds j → r ≡ 0
-    by true e is = eqb-true r 0 e
-    by false e is = let z : _≡_ {A = ℕ} 0 1 = cc in absurd (omega arith)
+use Rattle.sheet.proofs.Said.{refused-said, holds-said, gained-reads}
 
 module _ (m n : ℕ) (es : List Equation) (text : List ℕ) where
   abbrev l : Ledger
@@ -51,13 +31,9 @@ module _ (m n : ℕ) (es : List Equation) (text : List ℕ) where
   eleven-said : (enteredOf l (types text) ≡ Refused 11) ↔ NoEquation text
   unfolding enteredOf
   eleven-said = (
-    (λ said. not-typed text .0 (eleven-given m n es text .0 (refused-is (refusalOf l (enters (types text))) _ 11 said))),
+    (λ said. not-typed text .0 (eleven-given m n es text .0 (refused-said l (types text) 11 said))),
     λ out. rw (eleven-given m n es text .1 (not-typed text .1 out)),
   )
-
-  holds-said : (k : ℕ) → enteredOf l (types text) ≡ Holds k → refusalOf l (enters (types text)) ≡ 0
-  unfolding enteredOf
-  holds-said k said = holds-is (refusalOf l (enters (types text))) _ k said
 
   -- the equation that is typed in an accepted text, and the one added
   typed-added : 0 < m → refusalOf l (enters (types text)) ≡ 0
@@ -75,14 +51,12 @@ right-typing s m n es text reads pos =
     record {
       eleven = subst (λ (l : Ledger). (enteredOf l (types text) ≡ Refused 11) ↔ NoEquation text) (sym reads) (eleven-said m n es text);
       accepted = λ k said.
-          let none = holds-said m n es text k (ap (λ (l : Ledger). enteredOf l (types text)) (sym reads) ∙ said) in
+          let none = holds-said (opened m n es) (types text) k (ap (λ (l : Ledger). enteredOf l (types text)) (sym reads) ∙ said) in
           let (e, typed, same, solved) = typed-added m n es text pos none in (
             e,
             equationOf m n e,
             typed,
-            reads-after s (types text) ∙ ap (λ (l : Ledger). enter l (enters (types text))) reads
-                ∙ enter-accepted (opened m n es) (types text) none
-                ∙ ap (λ (new : Equation). opened m n (es ++ (new ∷ []))) same,
+            gained-reads m n es (types text) (ap gains same) none s reads,
             solved,
           );
     }

@@ -15,21 +15,23 @@ use Rattle.slices.specs.Over.{over}
 use Rattle.questions.specs.Questions.{unlessRefused}
 use Rattle.equations.specs.Vectors.{Vector}
 use Rattle.equations.specs.Equation.{Equation, solvesOne, solves}
+use Rattle.equations.specs.Whole.{HoldsWhole}
 use Rattle.equations.specs.Answer.{startOf, stepsOf}
 use Rattle.equations.specs.Multipliers.{refutes, allBelow}
 use Rattle.equations.specs.declared.Mark.the-variants.{Pass, Fail}
 use Rattle.equations.specs.Claim.{Claim, describes}
 use Rattle.system.specs.Block.{answerOf}
 use Rattle.words.specs.Words.{word, wordsIn, wordsOf, headKind, entryKind, multiplierKind}
+use Rattle.words.specs.Signs.{wholesOf}
 use Rattle.grammar.specs.Tree.{Sides}
 use Rattle.grammar.specs.Grammar.{Typed, largestText}
 use Rattle.grammar.specs.Meaning.{HoldsMod}
-use Rattle.ledger.specs.Ledger.{unopened, opened, modulusOf, unknownsOf, equationsIn}
+use Rattle.ledger.specs.Ledger.{unopened, opened, modulusOf, unknownsOf, equationsIn, mostEquations}
 use Rattle.ledger.specs.Allowed.{Allowed}
-use Rattle.ledger.specs.Shapes.{isClaim, entriesOf, claimFrom}
+use Rattle.ledger.specs.Shapes.{isEquation, isClaim, entriesOf, claimFrom}
 use Rattle.ledger.specs.Block.{longestBlock, blockWords, answerWords}
 use Rattle.ledger.specs.Marking.{claimMark}
-use Rattle.ledger.specs.Calls.{Call, Entry, opens, types, answers, answersFromTape, marks, enters, queries}
+use Rattle.ledger.specs.Calls.{Call, Entry, opens, adds, types, answers, answersFromTape, marks, enters, queries}
 use Rattle.ledger.specs.Questions.{plain, refusalOf}
 use Rattle.ledger.specs.History.{enter, ledgerFrom, ledger}
 use Rattle.sheet.specs.declared.Entered.the-variants.{Holds, Refused as Entered·Refused}
@@ -160,6 +162,21 @@ RightAlways = (s : Sheet) (m n : ℕ) (es : List Equation) → ledgerOf s ≡ op
 abbrev pub ReadsOn : Type 0
 ReadsOn = (s : Sheet) (calls : List Call) → ledgerOf (sheetFrom s calls) ≡ ledgerFrom (ledgerOf s) calls
 
+-- What document 02 says of an equation in words, S-3, on a sheet whose ledger has m, n and es.
+pub record RightAdding (s : Sheet) (m n : ℕ) (es : List Equation) (ws : List ℕ) : Type 0 where
+  -- "Any number of 28 bits is allowed": it is added exactly where its shape is right and there is room
+  pub allowed : (enteredOf (ledgerOf s) (adds ws) ≡ Holds (suc (length es)))
+      ↔ (T (isEquation n (wordsIn ws)) × (length es < mostEquations))
+  -- "and is brought to its residue": the words, as an equation of whole numbers, hold mod m at exactly the vectors that solve the
+  -- equation added
+  pub accepted : (k : ℕ) → enteredOf (ledgerOf s) (adds ws) ≡ Holds k
+      → (added : Equation) × (ledgerOf (sheetAfter s (adds ws)) ≡ opened m n (es ++ (added ∷ [])))
+      × ((v : List ℕ) → HoldsWhole m n (wholesOf (wordsIn ws)) v ↔ T (solvesOne m added v))
+
+-- Whatever the memory holds, and so after every list of calls.
+abbrev pub AddedAlways : Type 0
+AddedAlways = (s : Sheet) (m n : ℕ) (es : List Equation) (ws : List ℕ) → ledgerOf s ≡ opened m n es → RightAdding s m n es ws
+
 -- "texts outside this grammar or over 256 bytes"
 abbrev pub NoEquation : List ℕ → Type 0
 NoEquation text = ((e : Sides) → Typed e text → ⊥) ⊎ (largestText < length text)
@@ -174,6 +191,6 @@ pub record RightTyping (s : Sheet) (m n : ℕ) (es : List Equation) (text : List
       × (ledgerOf (sheetAfter s (types text)) ≡ opened m n (es ++ (added ∷ [])))
       × ((v : List ℕ) → HoldsMod m e v ↔ T (solvesOne m added v))
 
--- Whatever the memory holds, and so after every list of calls.
+-- So it is with texts too.
 abbrev pub TypedAlways : Type 0
 TypedAlways = (s : Sheet) (m n : ℕ) (es : List Equation) (text : List ℕ) → ledgerOf s ≡ opened m n es → RightTyping s m n es text

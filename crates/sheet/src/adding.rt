@@ -25,13 +25,13 @@ impl Sheet {
         ensures { λ _. ⌜ now (sheet .exit) ≡ sheetAfter (now (sheet .entry)) (adds (now (words .entry))) ⌝ }
     {
         let seen = Sheet::seen(sheet);
-        let mut numbers = [0u32; EQUATION_ROOM];
-        let refusal = add_refusal(seen, words, &mut numbers);
+        let mut line = [0u32; EQUATION_ROOM];
+        let refusal = add_refusal(seen, words, &mut line);
         if refusal != 0 {
             return Entered::Refused(refusal);
         }
         let width = seen.unknowns + 1;
-        with_line(sheet, &numbers[..width]);
+        with_line(sheet, &line[..width]);
         Entered::Holds(seen.held + 1)
     }
 }

@@ -1,5 +1,6 @@
 -- The call that is picked, and the call that is read from the rest of a tape.
---   picks-few, picks-none      the kinds that have no meaning pick nothing
+--   picks-add                  a coefficient picks an add, with a minus sign or without
+--   picks-few, picks-none      the kinds that begin no call pick nothing
 --   picked-told, picked-call   what is told of one call is told of the call that is picked
 --   next-picks, next-wants     what the first word picks, and how many words that takes
 --   next-call, next-used       the call read, and the bytes of its words
@@ -19,19 +20,23 @@ use Rattle.sheet.specs.Record.{Sheet, ledgerOf}
 use Rattle.sheet.specs.History.{left}
 use Rattle.tape.specs.declared.calling.Step.{Step}
 use Rattle.tape.specs.declared.picking.Pick.{Pick}
-use Rattle.tape.specs.declared.picking.Pick.the-variants.{Nothing}
+use Rattle.tape.specs.declared.picking.Pick.the-variants.{Adding, Nothing}
 use Rattle.tape.specs.Bytes.{wordAt, wordsWithin, wordsOn}
 use Rattle.tape.specs.FirstCall.{pickOf, wantedBy, wanted, callBy, firstCall}
 use Rattle.tape.specs.Reader.{linesOn, firstOn, takenFrom, stepOf}
 use Rattle.tape.specs.Model.Handed.{Tells}
 use Rattle.tape.proofs.OnTape.{words-length, words-first, words-taken}
 
+pub picks-add : (k : ℕ) → (k ≡ 3) ⊎ (k ≡ 10) → Adding ≡ pickOf k
+picks-add k either = ⊎-elim (λ is. rw is) (λ is. rw is) either
+
 pub picks-few : (k : ℕ) → (k ≡ 0) ⊎ ((k ≡ 2) ⊎ (k ≡ 4)) → Nothing ≡ pickOf k
 picks-few k few = ⊎-elim (λ is. rw is) (⊎-elim (λ is. rw is) (λ is. rw is)) few
 
-pub picks-none : (k : ℕ) → (k ≡ 1 → ⊥) → (k ≡ 3 → ⊥) → (k ≡ 5 → ⊥) → (k ≡ 8 → ⊥) → (k ≡ 9 → ⊥) → Nothing ≡ pickOf k
-picks-none k not-1 not-3 not-5 not-8 not-9 =
-    rw (ne-eqb k 1 not-1, ne-eqb k 3 not-3, ne-eqb k 5 not-5, ne-eqb k 8 not-8, ne-eqb k 9 not-9)
+pub picks-none : (k : ℕ) → (k ≡ 1 → ⊥) → (k ≡ 3 → ⊥) → (k ≡ 5 → ⊥) → (k ≡ 8 → ⊥) → (k ≡ 9 → ⊥) → (k ≡ 10 → ⊥)
+    → Nothing ≡ pickOf k
+picks-none k not-1 not-3 not-5 not-8 not-9 not-10 =
+    rw (ne-eqb k 1 not-1, ne-eqb k 3 not-3, ne-eqb k 5 not-5, ne-eqb k 8 not-8, ne-eqb k 9 not-9, ne-eqb k 10 not-10)
 
 pub picked-told : (s : Sheet) {c d : Call} {after : Sheet} {old new : List ℕ} {k : ℕ} → c ≡ d → Tells s c after old new k
     → Tells s d after old new k

@@ -1,22 +1,22 @@
 -- The first call on a tape: how many words it takes, which call it is, and the words that remain behind it. How long a call is
 -- depends on the ledger before it. Definitions only.
-use mathlib.Core.Bool.{cond}
+use mathlib.Core.Bool.{cond, _||_}
 use mathlib.Core.List.{List}
 use Prim.Native.Nat.{ℕ, _+_}
 use lib.Dec.{eqb}
 use lib.ListN.{take, drop, getD}
-use Rattle.words.specs.Words.{wordOf, modulusKind, coefficientKind, headKind, strikeKind, answerKind}
+use Rattle.words.specs.Words.{wordOf, modulusKind, coefficientKind, minusCoefficientKind, headKind, strikeKind, answerKind}
 use Rattle.ledger.specs.Ledger.{Ledger, unknownsOf}
 use Rattle.ledger.specs.Shapes.{claimLength}
 use Rattle.ledger.specs.Calls.{opens, adds, strikes, answersFromTape, marks, meaningless, Call, enters, queries}
 use Rattle.tape.specs.declared.picking.Pick.{Pick}
 use Rattle.tape.specs.declared.picking.Pick.the-variants.{Opening, Adding, Marking, Striking, Answering, Nothing}
 
--- "The first word's kind picks the call": one table
+-- "The first word's kind picks the call": one table. "A first word of kind 10 begins an add of n+1 words as kind 3 does".
 abbrev pub pickOf : ℕ → Pick
 pickOf kind =
     cond (eqb kind modulusKind) Opening
-    (cond (eqb kind coefficientKind) Adding
+    (cond (eqb kind coefficientKind || eqb kind minusCoefficientKind) Adding
     (cond (eqb kind headKind) Marking
     (cond (eqb kind strikeKind) Striking
     (cond (eqb kind answerKind) Answering Nothing))))

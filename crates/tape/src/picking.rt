@@ -8,6 +8,7 @@ use asking::queries::claim_length;
 use words::kinds::ANSWER;
 use words::kinds::COEFFICIENT;
 use words::kinds::HEAD;
+use words::kinds::MINUS_COEFFICIENT;
 use words::kinds::MODULUS;
 use words::kinds::STRIKE;
 
@@ -27,11 +28,11 @@ pub(crate) fn picked(kind: u32) -> Pick
 {
     match kind {
         MODULUS => Pick::Opening,
-        COEFFICIENT => Pick::Adding,
+        COEFFICIENT | MINUS_COEFFICIENT => Pick::Adding,
         HEAD => Pick::Marking,
         STRIKE => Pick::Striking,
         ANSWER => Pick::Answering,
-        0 | 2 | 4 | 6..=7 | 10..=15 => Pick::Nothing,
+        0 | 2 | 4 | 6..=7 | 11..=15 => Pick::Nothing,
         _ => Pick::Nothing,
     }
 }

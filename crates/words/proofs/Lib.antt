@@ -2,3 +2,4 @@
 pub mod Compared
 pub mod Words
 pub mod Unpacked
+pub mod Minus

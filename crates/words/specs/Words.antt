@@ -21,8 +21,7 @@ wordsIn ws = map wordOf ws
 abbrev pub word : ℕ → ℕ → ℕ
 word kind number = kind * numbersOfAKind + number
 
--- "Kinds: 1 modulus; 2 unknowns; 3 coefficient; 4 right side; 5 head; 6 vector entry; 7 multiplier; 8 strike; 9 answer.
--- Others have no meaning."
+-- "Kinds: 1 modulus; 2 unknowns; 3 coefficient; 4 right side; 5 head; 6 vector entry; 7 multiplier; 8 strike; 9 answer."
 abbrev pub modulusKind : ℕ
 modulusKind = 1
 
@@ -49,6 +48,13 @@ strikeKind = 8
 
 abbrev pub answerKind : ℕ
 answerKind = 9
+
+-- "Kinds 10 and 11 become a negative coefficient and a negative right side". Others have no meaning.
+abbrev pub minusCoefficientKind : ℕ
+minusCoefficientKind = 10
+
+abbrev pub minusRightKind : ℕ
+minusRightKind = 11
 
 -- the kinds and the numbers of words
 abbrev pub kindsOf : List Word → List ℕ

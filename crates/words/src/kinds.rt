@@ -1,4 +1,4 @@
-// Document 01's kinds of words.
+// The kinds of words, documents 01 and 02.
 ghost use mathlib.Core.Path.{_≡_};
 ghost use lib.ListN.{replicate};
 ghost use Rattle.equations.specs.Vectors.{sameVector};
@@ -20,6 +20,10 @@ pub const MULTIPLIER: u32 = 7;
 pub const STRIKE: u32 = 8;
 
 pub const ANSWER: u32 = 9;
+
+pub const MINUS_COEFFICIENT: u32 = 10;
+
+pub const MINUS_RIGHT: u32 = 11;
 
 // Whether there are just so many kinds, all of them this one.
 pub fn run_of(kinds: &[u32], kind: u32, count: usize) -> bool

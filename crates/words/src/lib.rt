@@ -1,4 +1,5 @@
-// Words of document 01: their kinds, words out of memory and words into memory.
+// Words of documents 01 and 02: their kinds, words out of memory and words into memory.
 pub mod kinds;
+pub mod signs;
 pub mod unpacking;
 pub mod writing;

@@ -11,8 +11,8 @@ use lib.Seq.{length-take-le}
 use Rattle.slices.specs.Over.{over}
 use Rattle.questions.specs.Questions.{firstNo}
 use Rattle.words.specs.Words.{wordsIn, numbersOf}
-use Rattle.words.proofs.Words.{words-count, numbers-count}
-use Rattle.words.proofs.Unpacked.{numbers-seen}
+use Rattle.words.proofs.Words.{numberOf, words-count, numbers-count}
+use Rattle.words.proofs.Unpacked.{parts-seen}
 use Rattle.safe.specs.declared.Turned.{Turned}
 use Rattle.safe.specs.Turns.{turnsOf}
 use Rattle.safe.specs.Calls.{mostLocks, argumentQuestions, found, turnsReply, turnedOf, bufferAfter}
@@ -30,7 +30,7 @@ module _ (m rows columns : ℕ) (values : List ℕ) {number : ℕ} (is : number 
 
   module _ (old : List ℕ) {numbers : List ℕ} (front : numbers ≡ over (take valuesRoom (numbersOf (wordsIn values))) old) where
     all-seen : take (length values) numbers ≡ numbersOf (wordsIn values)
-    all-seen = numbers-seen valuesRoom values old {r = length values} (omega (arith, words-count values, few)) front (omega (arith, few))
+    all-seen = parts-seen numberOf valuesRoom values old front {r = length values} (omega (arith, words-count values, few)) (omega (arith, few))
 
     lockable : Lockable m rows columns (take (length values) numbers)
     lockable = subst (Lockable m rows columns) (sym all-seen) (accepted m rows columns values (sym is ∙ none))

@@ -1,55 +1,54 @@
--- `entries::add_refusal` meets its contract: it asks the questions in their order, each of what is seen. With room for one word
--- more than an equation has, the kinds tell the shape; where it is right, the numbers of all words are seen.
-use mathlib.Core.Path.{ap, ap₂, _∙_}
+-- `entries::add_refusal` meets its contract: 4 is asked first; then, with room for one word more than an equation has, the kinds tell
+-- the shape, and 5 is asked last.
+use mathlib.Core.Path.{_≡_, sym, ap, subst, _∙_}
+use mathlib.Core.Bool.{true}
 use mathlib.Core.List.{[], _∷_, _++_}
 use Prim.Native.Nat.{ℕ}
 use native.Mathlib.Omega.{arith}
 use borrow.Author.Needs.{needs}
+use borrow.Author.Tests.{not-true, not-false}
 use denote.Ref.{now}
-use lib.Dec.{ltb}
-use lib.ListN.{length, replicate}
-use Rattle.questions.proofs.Ladder.{then-asked}
-use Rattle.equations.specs.Multipliers.{allBelow}
-use Rattle.equations.proofs.Truth.{true-of}
-use Rattle.words.specs.declared.unpacking.Word.{Word}
-use Rattle.words.specs.Words.{wordsIn, numbersOf, coefficientKind, rightKind}
-use Rattle.words.proofs.Unpacked.{front-length, kinds-seen, numbers-seen}
-use Rattle.ledger.specs.Ledger.{modulusOf, unknownsOf, equationsIn, mostEquations}
+use lib.Dec.{T}
+use lib.ListN.{replicate}
+use Rattle.questions.proofs.Ladder.{nothing-asked, then-asked}
+use Rattle.equations.proofs.Truth.{of-true}
+use Rattle.words.specs.Words.{wordsIn, coefficientKind, rightKind}
+use Rattle.words.proofs.Words.{plainKindOf}
+use Rattle.words.proofs.Unpacked.{front-length, kinds-seen}
+use Rattle.ledger.specs.Ledger.{unknownsOf}
 use Rattle.ledger.specs.Questions.{refusalOf}
 use Rattle.ledger.specs.Shapes.{isEquation}
-use Rattle.ledger.proofs.Shapes.{equation-kinds, equation-length}
+use Rattle.ledger.proofs.Shapes.{equation-kinds}
 use Rattle.asking.specs.Sees.{equationRoom}
-use Rattle.asking.proofs.Asked.{opened-asked}
+use Rattle.asking.proofs.Asked.{room-asked}
 use Rattle.asking.proofs.entries.add_refusal.Statement.{statement}
 use Rattle.asking.proofs.entries.add_refusal.Tie as tie
 
-slice-aggregate-unpack-into : tie.Need-slice-aggregate-unpack-into
-slice-aggregate-unpack-into c = search needs
+returns : tie.Need-returns
+unfolding refusalOf
+returns c =
+    let closed = not-true _ (c .if1 .taken) in
+    ((λ l sees. rw (sym (sees .opened) ∙ closed)), λ opened. absurd (subst T closed opened))
 
-unpack-into-requires : tie.Need-unpack-into-requires
-unpack-into-requires c κs = search needs
+slice-aggregate-residues-into : tie.Need-slice-aggregate-residues-into
+slice-aggregate-residues-into c = search needs
+
+residues-into-requires : tie.Need-residues-into-requires
+residues-into-requires c κs =
+    let start = c .before .before .before .before .before .before in
+    let some = start .pre .1 (of-true {b = start .args .seen .opened} (not-false _ (c .before .before .if1 .left))) in
+    search needs
 
 array-share-prefix-kinds : tie.Need-array-share-prefix-kinds
 array-share-prefix-kinds c = search needs
 
 slice-aggregate-is-equation : tie.Need-slice-aggregate-is-equation
 slice-aggregate-is-equation c =
-    let u = c .before .before .before .before .unpack-into in
-    front-length equationRoom _ _ (u .ensures .0) (λ (w : Word). w .kind) (u .ensures .1 .0)
+    let u = c .before .before .before .before .residues-into in
+    front-length plainKindOf equationRoom _ _ (u .ensures .1 .0) (u .ensures .0)
 
 is-equation-requires : tie.Need-is-equation-requires
 is-equation-requires c κs = search needs
-
-slice-reshare-prefix-all-below : tie.Need-slice-reshare-prefix-all-below
-slice-reshare-prefix-all-below c = search needs
-
-slice-aggregate-all-below : tie.Need-slice-aggregate-all-below
-slice-aggregate-all-below c =
-    let u = c .before .before .before .before .before .before .before .unpack-into in
-    front-length equationRoom _ _ (u .ensures .0) (λ (w : Word). w .number) (u .ensures .1 .1)
-
-all-below-requires : tie.Need-all-below-requires
-all-below-requires c κs = search needs
 
 ask-requires : tie.Need-ask-requires
 ask-requires c κs = search needs
@@ -57,60 +56,43 @@ ask-requires c κs = search needs
 ask-requires-2 : tie.Need-ask-requires-2
 ask-requires-2 c κs = search needs
 
-ask-requires-3 : tie.Need-ask-requires-3
-ask-requires-3 c κs = search needs
-
-ask-requires-4 : tie.Need-ask-requires-4
-ask-requires-4 c κs = search needs
-
 same-length : tie.Need-same-length
 same-length c = search needs
 
-returns : tie.Need-returns
+returns-2 : tie.Need-returns-2
 unfolding refusalOf
-returns c =
-    let b = c .before .before .before in
-    let u = b .before .before .before .before .before .before .before .before .before .unpack-into in
-    let start = b .before .before .before .before .before .before .before .before .before .before .before .before .before .before in
+returns-2 c =
+    let shaped = c .before .before in
+    let asked = shaped .before in
+    let u = asked .before .before .before .before .before .residues-into in
+    let start = asked .before .before .before .before .before .before .before .before .before .before .before .before in
+    let opened : start .args .seen .opened ≡ true =
+    not-false _ (asked .before .before .before .before .before .before .before .before .if1 .left) in
     let seen = start .args .seen in
     let ws = now (start .args .words) in
     let kinds =
-    kinds-seen equationRoom ws _ (u .ensures .0) (replicate (seen .unknowns) coefficientKind ++ (rightKind ∷ []))
-    (omega (arith, start .pre .0, equation-kinds (seen .unknowns))) (u .ensures .1 .0) in (
+    kinds-seen plainKindOf equationRoom ws _ (u .ensures .1 .0) (u .ensures .0) (replicate (seen .unknowns) coefficientKind ++ (rightKind ∷ []))
+    (omega (arith, start .pre .0, equation-kinds (seen .unknowns))) in (
       (λ l sees.
-          let opened = opened-asked sees (b .ask .ensures) in
           let shape =
-          then-asked opened 1 tt (isEquation (unknownsOf l) (wordsIn ws))
-          (λ yes. b .before .before .before .before .is-equation .ensures ∙ kinds ∙ ap (λ (n : ℕ). isEquation n (wordsIn ws)) (sees .unknowns))
-          (c .before .before .ask2 .ensures) in
-          let under =
-          then-asked shape 5 tt (ltb (length (equationsIn l)) mostEquations) (λ yes. ap (λ (k : ℕ). ltb k mostEquations) (sees .held))
-          (c .before .ask3 .ensures) in
-          then-asked under 6 tt (allBelow (modulusOf l) (numbersOf (wordsIn ws)))
-          (λ yes.
-          let long = equation-length (unknownsOf l) ws (true-of (isEquation (unknownsOf l) (wordsIn ws)) (yes .1 .0)) in
-          b .before .all-below .ensures
-          ∙ ap₂ allBelow (sees .modulus)
-          (numbers-seen equationRoom ws _ (u .ensures .0) (u .ensures .1 .1) (omega (arith, long, start .pre .0, sees .unknowns))))
-          (c .ask4 .ensures) .is),
-      u .ensures .1 .1,
+          then-asked nothing-asked 1 tt (isEquation (unknownsOf l) (wordsIn ws))
+          (λ yes. asked .is-equation .ensures ∙ kinds ∙ ap (λ (n : ℕ). isEquation n (wordsIn ws)) (sees .unknowns))
+          (shaped .ask .ensures) in
+          room-asked l sees opened shape (c .ask2 .ensures)),
+      (λ yes. u .ensures .1 .1),
     )
 
 pub add-refusal-spec : {M : Type 1} → statement M
 add-refusal-spec =
     tie.close
     (tie.spec
-    slice-aggregate-unpack-into
-    unpack-into-requires
+    returns
+    slice-aggregate-residues-into
+    residues-into-requires
     array-share-prefix-kinds
     slice-aggregate-is-equation
     is-equation-requires
-    slice-reshare-prefix-all-below
-    slice-aggregate-all-below
-    all-below-requires
     ask-requires
     ask-requires-2
-    ask-requires-3
-    ask-requires-4
     same-length
-    returns)
+    returns-2)

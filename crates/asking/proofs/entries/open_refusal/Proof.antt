@@ -10,9 +10,9 @@ use lib.ListN.{length}
 use Rattle.questions.specs.Questions.{allowedModulus}
 use Rattle.questions.proofs.Ladder.{nothing-asked, then-asked}
 use Rattle.equations.proofs.Truth.{true-of}
-use Rattle.words.specs.declared.unpacking.Word.{Word}
 use Rattle.words.specs.Words.{wordsIn, modulusKind, unknownsKind}
-use Rattle.words.proofs.Unpacked.{front-length, kinds-seen, number-seen}
+use Rattle.words.proofs.Words.{kindOf, numberOf}
+use Rattle.words.proofs.Unpacked.{front-length, kinds-seen, part-seen}
 use Rattle.ledger.specs.Questions.{allowedUnknowns, refusalOf}
 use Rattle.ledger.specs.Shapes.{numberAt, isOpening}
 use Rattle.ledger.proofs.Shapes.{opening-length}
@@ -32,7 +32,7 @@ array-share-prefix-kinds c = search needs
 slice-aggregate-is-opening : tie.Need-slice-aggregate-is-opening
 slice-aggregate-is-opening c =
     let u = c .before .before .before .before .unpack-into in
-    front-length openingRoom _ _ (u .ensures .0) (λ (w : Word). w .kind) (u .ensures .1 .0)
+    front-length kindOf openingRoom _ _ (u .ensures .1 .0) (u .ensures .0)
 
 is-opening-requires : tie.Need-is-opening-requires
 is-opening-requires c κs = search needs
@@ -71,18 +71,18 @@ returns c =
     let at-unpack = b .before .before .before .before .before .before .before .before in
     let u = at-unpack .unpack-into in
     let ws = now (at-unpack .before .before .before .before .before .args .words) in
-    let kinds = kinds-seen openingRoom ws _ (u .ensures .0) (modulusKind ∷ unknownsKind ∷ []) (omega arith) (u .ensures .1 .0) in
-    let number = number-seen openingRoom ws _ (u .ensures .1 .1) in
+    let kinds = kinds-seen kindOf openingRoom ws _ (u .ensures .1 .0) (u .ensures .0) (modulusKind ∷ unknownsKind ∷ []) (omega arith) in
+    let seen = part-seen numberOf openingRoom ws _ (u .ensures .1 .1) in
     let two : T (isOpening (wordsIn ws)) → length ws ≡ 2 = λ yes. opening-length ws (true-of (isOpening (wordsIn ws)) yes) in
     let shape =
     then-asked nothing-asked 1 tt (isOpening (wordsIn ws)) (λ yes. b .before .before .before .is-opening .ensures ∙ kinds)
     (b .before .before .ask .ensures) in
     let modulus =
     then-asked shape 2 tt (allowedModulus (numberAt (wordsIn ws) 0))
-    (λ yes. b .is-modulus .ensures ∙ ap allowedModulus (number 0 (omega arith) (omega (arith, two (yes .0)))))
+    (λ yes. b .is-modulus .ensures ∙ ap allowedModulus (seen 0 (omega arith) (omega (arith, two (yes .0)))))
     (c .before .before .before .ask2 .ensures) in (
       then-asked modulus 3 tt (allowedUnknowns (numberAt (wordsIn ws) 1))
-          (λ yes. c .before .are-unknowns .ensures ∙ ap allowedUnknowns (number 1 (omega arith) (omega (arith, two (yes .0)))))
+          (λ yes. c .before .are-unknowns .ensures ∙ ap allowedUnknowns (seen 1 (omega arith) (omega (arith, two (yes .0)))))
           (c .ask3 .ensures) .is,
       u .ensures .1 .1,
     )

@@ -9,9 +9,9 @@ use denote.Ref.{now}
 use lib.ListN.{drop}
 use Rattle.questions.proofs.Ladder.{then-asked}
 use Rattle.equations.specs.Multipliers.{allBelow}
-use Rattle.words.specs.declared.unpacking.Word.{Word}
 use Rattle.words.specs.Words.{wordsIn}
-use Rattle.words.proofs.Unpacked.{front-length, numbers-seen}
+use Rattle.words.proofs.Words.{kindOf, numberOf}
+use Rattle.words.proofs.Unpacked.{front-length, parts-seen}
 use Rattle.ledger.specs.Ledger.{modulusOf, unknownsOf}
 use Rattle.ledger.specs.Questions.{refusalOf}
 use Rattle.ledger.specs.Shapes.{isClaim, entriesOf}
@@ -34,7 +34,7 @@ array-share-prefix-kinds c = search needs
 slice-aggregate-is-claim : tie.Need-slice-aggregate-is-claim
 slice-aggregate-is-claim c =
     let u = c .before .before .before .before .unpack-into in
-    front-length claimRoom _ _ (u .ensures .0) (λ (w : Word). w .kind) (u .ensures .1 .0)
+    front-length kindOf claimRoom _ _ (u .ensures .1 .0) (u .ensures .0)
 
 slice-read-is-claim : tie.Need-slice-read-is-claim
 slice-read-is-claim c = search needs
@@ -48,7 +48,7 @@ slice-reshare-prefix-entries-below c = search needs
 slice-aggregate-entries-below : tie.Need-slice-aggregate-entries-below
 slice-aggregate-entries-below c =
     let u = c .before .before .before .before .before .before .before .unpack-into in
-    front-length claimRoom _ _ (u .ensures .0) (λ (w : Word). w .number) (u .ensures .1 .1)
+    front-length numberOf claimRoom _ _ (u .ensures .1 .1) (u .ensures .0)
 
 entries-below-requires : tie.Need-entries-below-requires
 entries-below-requires c κs = search needs
@@ -85,7 +85,7 @@ returns c =
           let few = claim-fits (unknownsOf l) ws (yes .1 .0) (omega (arith, start .pre .0, sees .unknowns)) in
           b .entries-below .ensures
           ∙ ap₂ (λ (m : ℕ) (xs : List ℕ). allBelow m (drop 1 xs)) (sees .modulus)
-          (numbers-seen claimRoom ws _ (u .ensures .0) (u .ensures .1 .1) (omega (arith, few))))
+          (parts-seen numberOf claimRoom ws _ (u .ensures .1 .1) (u .ensures .0) (omega (arith, few))))
           (c .ask3 .ensures) .is),
       u .ensures .1 .1,
     )

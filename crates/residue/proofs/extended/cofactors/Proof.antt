@@ -1,7 +1,7 @@
 -- `cofactors` meets its contract. The invariant: the divisor of (x, y) is that of (a, b), and there are two columns, from which
 -- the cofactors of (a, b) follow. At the start a division of b by a stands for two of the chain. The measure is y.
 use mathlib.Core.Bool.{Bool, true, false, not, cond, Bool·not-not}
-use mathlib.Core.Path.{_≡_, refl, sym, ap, _∙_}
+use mathlib.Core.Path.{_≡_, refl, sym, ap, subst, _∙_}
 use Prim.Native.Nat.{ℕ, zero, suc, _+_, _*_, _/_, _%_, _<_}
 use native.Mathlib.Nat.{mod-lt, mod-one, div-one}
 use native.Mathlib.Omega.{arith}
@@ -110,38 +110,59 @@ loop-again c =
     let d = c .divide in
     step (omega arith) (omega arith) (d .ensures .0) (d .ensures .1) (c .before .before .loop .inv)
 
+wide-requires : tie.Need-wide-requires Inv-loop μ-loop
+wide-requires c κs = search needs
+
 signed-requires : tie.Need-signed-requires Inv-loop μ-loop
 signed-requires c κs = search needs
+
+wide-requires-2 : tie.Need-wide-requires-2 Inv-loop μ-loop
+wide-requires-2 c κs = search needs
 
 signed-requires-2 : tie.Need-signed-requires-2 Inv-loop μ-loop
 signed-requires-2 c κs = search needs
 
+wide-requires-3 : tie.Need-wide-requires-3 Inv-loop μ-loop
+wide-requires-3 c κs = search needs
+
 signed-requires-3 : tie.Need-signed-requires-3 Inv-loop μ-loop
 signed-requires-3 c κs = search needs
+
+wide-requires-4 : tie.Need-wide-requires-4 Inv-loop μ-loop
+wide-requires-4 c κs = search needs
 
 signed-requires-4 : tie.Need-signed-requires-4 Inv-loop μ-loop
 signed-requires-4 c κs = search needs
 
+-- a cofactor's size is handed on with 64 bits
+by-size : (minus : Bool) (m : ℕ) {k x r : ℕ} → k ≡ x → r ≡ cond minus (negative m k % m) (k % m)
+    → r ≡ cond minus (negative m x % m) (x % m)
+by-size minus m {r = r} same = subst (λ (j : ℕ). r ≡ cond minus (negative m j % m) (j % m)) same
+
 -- the division by 1 that is not made
 returns : tie.Need-returns Inv-loop μ-loop
 returns c =
-    let p = c .before .before .before .before .before .args in
-    let l = c .before .before .before .before .loop in
+    let p = c .before .before .before .before .before .before .before .args in
+    let l = c .before .before .before .before .before .before .loop in
     let pos : 0 < p .m = omega arith in
     let one : l .y ≡ 1 = omega arith in (
       ends pos (ap (λ (k : ℕ). l .x % k) one ∙ mod-one (l .x)) (step pos (omega arith) refl refl (l .inv)) (sym one)
-          (c .before .signed .ensures .0) (rw (Bool·not-not (l .odd)) (c .signed2 .ensures .0))
+          (by-size (not (l .odd)) (p .m) (c .before .before .before .wide .ensures) (c .before .before .signed .ensures .0))
+          (rw (Bool·not-not (l .odd)) (by-size (l .odd) (p .m) (c .before .wide2 .ensures) (c .signed2 .ensures .0)))
           (sym (div-one (p .a))) (sym (div-one (p .b))),
-      (c .before .signed .ensures .1, c .signed2 .ensures .1),
+      (c .before .before .signed .ensures .1, c .signed2 .ensures .1),
     )
 
 returns-2 : tie.Need-returns-2 Inv-loop μ-loop
 returns-2 c =
-    let l = c .before .before .before .before .loop in
+    let m = c .before .before .before .before .before .before .before .args .m in
+    let l = c .before .before .before .before .before .before .loop in
     let last : l .y ≡ 0 = omega arith in
     let whole = quotients-end (omega arith) last (l .inv) in (
-      ends (omega arith) last (l .inv) refl (c .before .signed3 .ensures .0) (c .signed4 .ensures .0) (whole .0) (whole .1),
-      (c .before .signed3 .ensures .1, c .signed4 .ensures .1),
+      ends (omega arith) last (l .inv) refl
+          (by-size (l .odd) m (c .before .before .before .wide3 .ensures) (c .before .before .signed3 .ensures .0))
+          (by-size (not (l .odd)) m (c .before .wide4 .ensures) (c .signed4 .ensures .0)) (whole .0) (whole .1),
+      (c .before .before .signed3 .ensures .1, c .signed4 .ensures .1),
     )
 
 pub cofactors-spec : {M : Type 1} → statement M
@@ -158,9 +179,13 @@ cofactors-spec =
     add-t-after
     loop-less
     loop-again
+    wide-requires
     signed-requires
+    wide-requires-2
     signed-requires-2
+    wide-requires-3
     signed-requires-3
+    wide-requires-4
     signed-requires-4
     returns
     returns-2)

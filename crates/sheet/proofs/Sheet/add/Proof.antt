@@ -1,4 +1,4 @@
--- `Sheet::add` meets its contract: a refused equation keeps the sheet, and the line of an accepted one is what was seen of its words.
+-- `Sheet::add` meets its contract: a refused equation keeps the sheet, and the line of an accepted one has the residues of its words.
 use mathlib.Core.Path.{refl, sym, ap, _∙_}
 use Prim.Native.Nat.{ℕ, _+_}
 use native.Mathlib.Omega.{arith}
@@ -9,7 +9,7 @@ use lib.Seq.{length-take-le}
 use Rattle.ledger.specs.Calls.{adds}
 use Rattle.asking.specs.Sees.{equationRoom}
 use Rattle.sheet.specs.Record.{ledgerOf}
-use Rattle.sheet.proofs.Entering.{entry-refused, gain-opened, gain-under, gain-width, gain-accepted, line-long, line-seen, line-lies}
+use Rattle.sheet.proofs.Entering.{entry-refused, gain-opened, gain-under, gain-width, gain-accepted, modulus-some, line-long, line-seen, line-lies}
 use Rattle.sheet.proofs.Sheet.add.Statement.{statement}
 use Rattle.sheet.proofs.Sheet.add.Tie as tie
 
@@ -20,7 +20,8 @@ slice-aggregate-add-refusal : tie.Need-slice-aggregate-add-refusal
 slice-aggregate-add-refusal c = search needs
 
 add-refusal-requires : tie.Need-add-refusal-requires
-add-refusal-requires c κs = search needs
+add-refusal-requires c κs =
+    let some = modulus-some (now (c .before .before .before .before .args .sheet)) (c .before .seen .ensures .0) in search needs
 
 returns : tie.Need-returns
 returns c =
@@ -34,8 +35,8 @@ returns c =
 add-width : tie.Need-add-width
 add-width c = search needs
 
-array-share-prefix-numbers : tie.Need-array-share-prefix-numbers
-array-share-prefix-numbers c = search needs
+array-share-prefix-line : tie.Need-array-share-prefix-line
+array-share-prefix-line c = search needs
 
 slice-aggregate-with-line : tie.Need-slice-aggregate-with-line
 slice-aggregate-with-line c =
@@ -85,7 +86,7 @@ add-spec =
     add-refusal-requires
     returns
     add-width
-    array-share-prefix-numbers
+    array-share-prefix-line
     slice-aggregate-with-line
     with-line-requires
     add-t16

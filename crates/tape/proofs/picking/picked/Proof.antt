@@ -1,8 +1,9 @@
 -- `picking::picked` meets its contract: each arm is a line of the table, and the last ones are what is left of the kinds.
 use mathlib.Core.Path.{sym, ap}
+use mathlib.Core.Logic.{inl, inr}
 use native.Mathlib.Omega.{arith}
 use Rattle.tape.specs.FirstCall.{pickOf}
-use Rattle.tape.proofs.Picked.{picks-few, picks-none}
+use Rattle.tape.proofs.Picked.{picks-add, picks-few, picks-none}
 use Rattle.tape.proofs.picking.picked.Statement.{statement}
 use Rattle.tape.proofs.picking.picked.Tie as tie
 
@@ -10,7 +11,7 @@ returns : tie.Need-returns
 returns c = sym (ap pickOf (c .match .keys1))
 
 returns-2 : tie.Need-returns-2
-returns-2 c = sym (ap pickOf (c .match .keys2))
+returns-2 c = picks-add (c .before .args .kind) (c .match .keys2)
 
 returns-3 : tie.Need-returns-3
 returns-3 c = sym (ap pickOf (c .match .keys3))
@@ -24,15 +25,16 @@ returns-5 c = sym (ap pickOf (c .match .keys5))
 returns-6 : tie.Need-returns-6
 returns-6 c =
     picks-none (c .before .before .args .kind) (λ p. omega arith) (λ p. omega arith) (λ p. omega arith) (λ p. omega arith)
-    (λ p. omega arith)
+    (λ p. omega arith) (λ p. omega arith)
 
 returns-7 : tie.Need-returns-7
 returns-7 c = picks-few (c .before .args .kind) (c .match .keys6)
 
 returns-8 : tie.Need-returns-8
 returns-8 c =
-    picks-none (c .before .before .args .kind) (λ p. omega arith) (λ p. omega arith) (λ p. omega arith) (λ p. omega arith)
-    (λ p. omega arith)
+    let no-add = c .before .match .rest .0 .0 .0 .0 .1 in
+    picks-none (c .before .before .args .kind) (λ p. omega arith) (λ p. no-add (inl p)) (λ p. omega arith) (λ p. omega arith)
+    (λ p. omega arith) (λ p. no-add (inr p))
 
 pub picked-spec : {M : Type 1} → statement M
 picked-spec =

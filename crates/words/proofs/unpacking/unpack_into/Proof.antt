@@ -1,22 +1,18 @@
 -- `unpacking::unpack_into` meets its contract. The invariant: the first i kinds and the first i numbers are written, and behind them
 -- both slices are as they were. The measure is what is left.
-use mathlib.Core.Path.{sym, ap, _∙_}
+use mathlib.Core.Path.{ap}
 use Prim.Native.Nat.{_≤_, _-_}
 use native.Mathlib.Omega.{arith}
 use borrow.Author.Needs.{needs}
-use lib.ListN.{length, take, length-take}
-use lib.Seq.{getD-take}
-use Rattle.slices.proofs.Copied.{Copied, copied-none, copied-more, copied-all}
-use Rattle.words.specs.declared.unpacking.Word.{Word}
-use Rattle.words.specs.Words.{wordsIn, kindsOf, numbersOf}
-use Rattle.words.proofs.Words.{words-count, kinds-count, numbers-count, kind-at, number-at}
+use lib.ListN.{length}
+use Rattle.words.proofs.Words.{kindOf, numberOf, words-count}
+use Rattle.words.proofs.Unpacked.{Unpacked, unpacked-none, unpacked-more, unpacked-all}
 use Rattle.words.proofs.unpacking.unpack_into.Statement.{statement}
 use Rattle.words.proofs.unpacking.unpack_into.Tie as tie
 
 abbrev Inv-loop : tie.InvT-loop
 Inv-loop memory kinds₀ numbers₀ count i₀ kinds numbers i =
-    (i ≤ count) × Copied i (take (length kinds₀) (kindsOf (wordsIn memory))) kinds₀ kinds
-    × Copied i (take (length kinds₀) (numbersOf (wordsIn memory))) numbers₀ numbers
+    (i ≤ count) × Unpacked kindOf (length kinds₀) memory kinds₀ i kinds × Unpacked numberOf (length kinds₀) memory numbers₀ i numbers
 
 abbrev μ-loop : tie.MeasureT-loop
 μ-loop memory kinds₀ numbers₀ count i₀ kinds numbers i = count - i
@@ -27,11 +23,10 @@ smaller-requires c κs = search needs
 loop-holds : tie.Need-loop-holds Inv-loop μ-loop
 loop-holds c =
     let a = c .before .before .before .before .args in
-    let words = wordsIn (a .memory .now) in
     let room = length (a .kinds .now) in (
       omega arith,
-      copied-none (take room (kindsOf words)) (a .kinds .now),
-      copied-none (take room (numbersOf words)) (a .numbers .now),
+      unpacked-none kindOf room (a .memory .now) (a .kinds .now),
+      unpacked-none numberOf room (a .memory .now) (a .numbers .now),
     )
 
 mul-unpack : tie.Need-mul-unpack Inv-loop μ-loop
@@ -65,16 +60,12 @@ loop-again : tie.Need-loop-again Inv-loop μ-loop
 loop-again c =
     let a = c .before .before .before .before .before .before .before .before .args in
     let l = c .before .before .before .loop in
-    let kinds = kindsOf (wordsIn (a .memory .now)) in
-    let numbers = numbersOf (wordsIn (a .memory .now)) in
     let room = length (a .kinds .now) in (
       omega arith,
-      copied-more (l .i) (take room kinds) (a .kinds .now) 0 (l .inv .1)
-          (omega (arith, length-take room kinds, kinds-count (a .memory .now))) (omega arith)
-          (ap (λ (w : Word). w .kind) (c .unpack .ensures) ∙ sym (getD-take room kinds (l .i) 0 (omega arith) ∙ kind-at (a .memory .now) (l .i))),
-      copied-more (l .i) (take room numbers) (a .numbers .now) 0 (l .inv .2)
-          (omega (arith, length-take room numbers, numbers-count (a .memory .now))) (omega arith)
-          (ap (λ (w : Word). w .number) (c .unpack .ensures) ∙ sym (getD-take room numbers (l .i) 0 (omega arith) ∙ number-at (a .memory .now) (l .i))),
+      unpacked-more kindOf room (a .memory .now) (a .kinds .now) (l .i) (l .inv .1) (omega arith) (omega arith)
+          (ap kindOf (c .unpack .ensures)),
+      unpacked-more numberOf room (a .memory .now) (a .numbers .now) (l .i) (l .inv .2) (omega arith) (omega arith)
+          (ap numberOf (c .unpack .ensures)),
     )
 
 same-length : tie.Need-same-length Inv-loop μ-loop
@@ -87,15 +78,11 @@ returns : tie.Need-returns Inv-loop μ-loop
 returns c =
     let a = c .before .before .before .before .before .before .args in
     let l = c .before .loop in
-    let kinds = kindsOf (wordsIn (a .memory .now)) in
-    let numbers = numbersOf (wordsIn (a .memory .now)) in
     let room = length (a .kinds .now) in (
       omega (arith, words-count (a .memory .now)),
       (
-        copied-all (l .i) (take room kinds) (a .kinds .now) (l .inv .1)
-            (omega (arith, length-take room kinds, kinds-count (a .memory .now))),
-        copied-all (l .i) (take room numbers) (a .numbers .now) (l .inv .2)
-            (omega (arith, length-take room numbers, numbers-count (a .memory .now))),
+        unpacked-all kindOf room (a .memory .now) (a .kinds .now) (l .i) (l .inv .1) (omega arith),
+        unpacked-all numberOf room (a .memory .now) (a .numbers .now) (l .i) (l .inv .2) (omega arith),
       ),
     )
 

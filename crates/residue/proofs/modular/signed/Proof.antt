@@ -2,8 +2,8 @@
 use mathlib.Core.Path.{sym}
 use borrow.Author.Needs.{needs}
 use Rattle.residue.proofs.Negative.{negative-mod}
-use Rattle.residue.proofs.extended.signed.Statement.{statement}
-use Rattle.residue.proofs.extended.signed.Tie as tie
+use Rattle.residue.proofs.modular.signed.Statement.{statement}
+use Rattle.residue.proofs.modular.signed.Tie as tie
 
 remainder-requires : tie.Need-remainder-requires
 remainder-requires c κs = search needs
