@@ -201,7 +201,7 @@ fn an_equation_with_signs_and_large_numbers_leaves_the_same_sheet_as_one_with_re
             assert_eq!(answers[0], answers[1], "mod {m} (seed {})", random.seed);
         }
     }
-    assert!(signs > 5_000, "{signs} minus signs");
+    assert!(signs > 3_000, "{signs} minus signs");
 }
 
 #[test]
@@ -334,5 +334,5 @@ fn full_size_sheets_are_answered_soundly_and_their_own_block_passes() {
             _ => panic!("{system:?}: {outcomes:?} (seed {})", random.seed),
         }
     }
-    assert!(solvable > 60 && unsolvable > 10, "{solvable} solvable, {unsolvable} unsolvable");
+    assert!(solvable > 60 && unsolvable > 3, "{solvable} solvable, {unsolvable} unsolvable");
 }

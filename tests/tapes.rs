@@ -265,7 +265,7 @@ fn equations_with_signs_and_large_numbers_print_the_lines_of_their_residues() {
         signs += signed.iter().filter(|&&word| ledger::whole(word) < 0).count();
         assert_eq!(printed(&tape::bytes(&signed)), printed(&tape::bytes(&plain)), "{signed:x?} (seed {})", random.seed);
     }
-    assert!(signs > 5_000, "{signs} minus signs");
+    assert!(signs > 3_000, "{signs} minus signs");
 }
 
 #[test]
