@@ -1,24 +1,23 @@
 -- The promises of specs/Promises.antt, kept: where m is allowed, by those of `residue` for the residues.
 use mathlib.Core.Path.{_≡_, refl, sym, ap, subst, _∙_}
 use mathlib.Core.Logic.{_↔_}
-use mathlib.Core.Bool.{Bool, true, false, cond}
+use mathlib.Core.Bool.{Bool, true, false}
 use Prim.Native.Nat.{ℕ}
 use native.Mathlib.Omega.{arith}
 use lib.Dec.{T}
+use lib.Ieee.Bits.{is-true}
 use lib.IntN.{ℤ}
 use Rattle.questions.specs.Questions.{allowedModulus}
 use Rattle.residue.specs.Residue.{residueOf}
-use Rattle.residue.specs.Congruence.{solutionsOf}
 use Rattle.residue.specs.Promises.{Describes}
 use Rattle.residue.specs.declared.congruence.Solutions.{Solutions}
 use Rattle.residue.specs.declared.congruence.Solutions.the-variants.{NoSolution, Spaced}
 use Rattle.residue.proofs.Residue.{solving-residues}
 use Rattle.residue.proofs.Promises as residue
-use Rattle.congruence.specs.declared.Solved.{Solved}
 use Rattle.congruence.specs.declared.Solved.the-variants.{Refused, NoSolution as Solved·NoSolution, Solutions as Solved·Solutions}
 use Rattle.congruence.specs.Congruence.{solvedOf, congruenceOf}
 use Rattle.congruence.specs.Promises.{SolvesWhole, RefusedByModulus, NoneByDivisor, NoneExactly, LeastAndSpacing}
-use Rattle.congruence.proofs.Answers.{modulus-some}
+use Rattle.congruence.proofs.Answers.{modulus-some, found, answer-is}
 
 -- ---- the cases of the answer
 
@@ -37,26 +36,9 @@ solved-spaced (Spaced u other) t spacing e =
     let second : other ≡ spacing = cc in
     λ i. Spaced (first i) (second i)
 
-module _ (a b : ℤ) (m : ℕ) where
-  abbrev found : Solutions
-  found = solutionsOf (residueOf m a) (residueOf m b) m
-
-  -- by whether m is allowed
-  abbrev answer : Bool → Solved
-  answer test = cond test (solvedOf found) (Refused 2)
-
-  answer-is : (test : Bool) → allowedModulus m ≡ test → congruenceOf a b m ≡ answer test
-  unfolding congruenceOf
-  answer-is true e = rw e
-  answer-is false e = rw e
-
-  -- where it is, the answer is that for the residues
-  of-residues : T (allowedModulus m) → congruenceOf a b m ≡ solvedOf found
-  of-residues allowed = by (allowedModulus m) refl allowed
-    where
-      by : (test : Bool) → allowedModulus m ≡ test → T test → congruenceOf a b m ≡ solvedOf found
-      by true e allowed = answer-is true e
-      by false e allowed = absurd allowed
+-- where m is allowed, the answer is that for the residues
+of-residues : (a b : ℤ) (m : ℕ) → T (allowedModulus m) → congruenceOf a b m ≡ solvedOf (found a b m)
+of-residues a b m allowed = answer-is a b m true (is-true (allowedModulus m) allowed)
 
 -- ---- the promises
 

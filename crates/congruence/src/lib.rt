@@ -1,7 +1,6 @@
 // One congruence a·t = b mod m as a call: its question, and then the arithmetic of `residue`.
 ghost use mathlib.Core.Path.{_≡_};
 ghost use Rattle.congruence.specs.Congruence.{congruenceOf};
-use questions::ask;
 use questions::is_modulus;
 use residue::congruence::Solutions;
 use residue::congruence::solve as solve_one;
@@ -18,9 +17,8 @@ pub enum Solved {
 pub fn solve(a: i32, b: i32, m: u32) -> Solved
     ensures { λ r. ⌜ r ≡ congruenceOf a b m ⌝ }
 {
-    let number = ask(0, 2, is_modulus(m));
-    if number != 0 {
-        return Solved::Refused(number);
+    if !is_modulus(m) {
+        return Solved::Refused(2);
     }
     let coefficient = residue(a as i64, m);
     let right = residue(b as i64, m);

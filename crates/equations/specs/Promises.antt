@@ -1,5 +1,5 @@
--- Demand 2 about the definitions, in the customer's words and document 01's. Each promise is a type;
--- proofs/Promises.antt keeps it. Definitions only.
+-- Demand 2 about the definitions, in the customer's words and document 01's; and, last, document 02's about whole numbers. Each promise is
+-- a type; proofs/Promises.antt keeps it. Definitions only.
 use mathlib.Core.Path.{_≡_}
 use mathlib.Core.Logic.{_↔_, _⊎_}
 use mathlib.Core.List.{List, [], _∷_, _++_, map}

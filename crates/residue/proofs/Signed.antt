@@ -1,7 +1,7 @@
 -- Signed numbers on their way to their size, and narrower ones on their way to 64 bits. A number x is read from its bits as
 -- `toZ w (ofZ w x)`, which is x where it fits; `mag x` is its size, and one less for a negative one.
 --   widens, widened        a number of fewer bits fits 64, and is the same there
---   negative-is, natural-is   what a test of the sign tells
+--   negative-is            what a test of the sign tells
 --   natural-read           a number without a sign is read as its size
 --   raised-fits            for a negative x: x + 1 fits
 --   turned-fits, turned    and so does -(x + 1), which is read as `mag x`
@@ -36,7 +36,7 @@ not-below-zero (negsuc a) h = absurd (subst T h tt)
 -- ---- a number without a sign
 
 module _ {x : ℤ} (fits : SFits w64 x) (test : ltZ (toZ w64 (ofZ w64 x)) (pos 0) ≡ false) where
-  pub natural-is : x ≡ pos (mag x)
+  natural-is : x ≡ pos (mag x)
   natural-is = not-below-zero x (ap (λ (y : ℤ). ltZ y (pos 0)) (sym (toZ-ofZ {w = w64} fits)) ∙ test)
 
   pub natural-read : T (nonNeg (toZ w64 (ofZ w64 x))) × Fits w64 (natAbs (toZ w64 (ofZ w64 x)))
