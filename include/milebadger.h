@@ -1,7 +1,8 @@
 /* milebadger.h: the calls of the Milebadger library, for exercises on linear equations over the residues 0..m-1.
  *
  * A workbench has a sheet for each student in its own memory. It opens the sheet, adds equations and strikes them, asks
- * for the answer, and has claims marked. A whole program (x1 + 2·x2 = 0 mod 4, and the claim "0 0, and the step 2 3"):
+ * for the answer, and has claims marked, one at a time or a class at once. A whole program (x1 + 2·x2 = 0 mod 4, and the
+ * claim "0 0, and the step 2 3"):
  *
  *     #include <inttypes.h>
  *     #include <stdio.h>
@@ -37,18 +38,19 @@
  * Results. A call returns
  *     0 or more   where it is made. Each call says what the number is,
  *     below 0     where it is refused: a question about its arguments has the answer no, and the result is minus the
- *                 first such question's number. Each call lists its questions in their order. Whether `out` is long
- *                 enough, -8, is asked last, and only where something would be written. The numbers have names,
+ *                 first such question's number. Each call lists its questions in their order. Whether `out` or `marks`
+ *                 is long enough, -8, is asked last, and only where something would be written. The numbers have names,
  *                 MILEBADGER_REFUSED_.., and milebadger_sentence says them in English.
- * A refused call changes nothing: `sheet` and `out` keep every byte. Past what is written, and at the result 0, `out`
- * keeps its content too.
+ * A refused call changes nothing: `sheet`, `out` and `marks` keep every byte. Past what is written, and at the result 0,
+ * `out` and `marks` keep their content too.
  *
  * Memory. `sheet` points to a sheet of the caller's. `out` points to `out_len` numbers, words or bytes that are the
- * caller's. Nobody else uses `out` during the call, nor `sheet` where it is not const. `words`, `text`, `lines`, `values`
- * and `tape` point to as many words, numbers or bytes as their lengths say; nobody writes these, or a const `sheet`,
- * meanwhile. None of them overlaps another that the call writes. A length may be 0: the pointer then leads to something
- * of the caller's all the same, and nothing is read or written. The library keeps nothing from one call to the next;
- * what a sheet holds is in the sheet. Calls with different memory may run at the same time.
+ * caller's, `marks` to `marks_len` bytes. Nobody else uses `out` or `marks` during the call, nor `sheet` where it is not
+ * const. `words`, `text`, `lines`, `values` and `tape` point to as many words, numbers or bytes as their lengths say;
+ * nobody writes these, or a const `sheet`, meanwhile. None of them overlaps another that the call writes. A length may be
+ * 0: the pointer then leads to something of the caller's all the same, and nothing is read or written. The library keeps
+ * nothing from one call to the next; what a sheet holds is in the sheet. Calls with different memory may run at the same
+ * time.
  */
 #ifndef MILEBADGER_H
 #define MILEBADGER_H
@@ -60,11 +62,11 @@
 extern "C" {
 #endif
 
-/* This header's version: 10,000 times its first number, 100 times its second and its third; 20000 is 2.0.0. The header
+/* This header's version: 10,000 times its first number, 100 times its second and its third; 20100 is 2.1.0. The header
  * goes with its library. As long as the first number is the same, a sheet keeps its size and the calls keep their
  * arguments; a program that loads the shared library can ask for that when it starts:
  * milebadger_version() / 10000 == MILEBADGER_VERSION / 10000. */
-#define MILEBADGER_VERSION 20000
+#define MILEBADGER_VERSION 20100
 
 /* The library's version.
  *
@@ -87,6 +89,7 @@ uint32_t milebadger_version(void);
 #define MILEBADGER_REFUSED_TEXT (-11)
 #define MILEBADGER_REFUSED_BEYOND (-12)
 #define MILEBADGER_REFUSED_NOT_LINEAR (-13)
+#define MILEBADGER_REFUSED_CLAIMS (-14)
 
 /* What a result says, in plain English: "done" where the call was made, else why it was refused. */
 static inline const char *milebadger_sentence(int64_t result)
@@ -120,6 +123,8 @@ static inline const char *milebadger_sentence(int64_t result)
         return "the text has an unknown that the sheet does not have";
     case MILEBADGER_REFUSED_NOT_LINEAR:
         return "the text is not linear: a product has unknowns on both sides";
+    case MILEBADGER_REFUSED_CLAIMS:
+        return "the class has more than 64 claims";
     default:
         return "no result of this library";
     }
@@ -149,6 +154,7 @@ static inline const char *milebadger_sentence(int64_t result)
 #define MILEBADGER_MOST_EQUATIONS 16
 #define MILEBADGER_MOST_LOCKS 16
 #define MILEBADGER_LARGEST_HEAD 17 /* of a block or a claim: a starting vector, and a step for each unknown */
+#define MILEBADGER_MOST_CLAIMS 64 /* of a class */
 #define MILEBADGER_LARGEST_NUMBER 0x0FFFFFFF /* of a word */
 #define MILEBADGER_LONGEST_TAPE 65536 /* bytes */
 #define MILEBADGER_LONGEST_TEXT 256 /* bytes */
@@ -243,6 +249,26 @@ int64_t milebadger_answer(const milebadger_sheet *sheet, uint32_t *out, size_t o
  *          All entries below m? If not, -6.
  * Returns  MILEBADGER_PASS, MILEBADGER_FAIL; or -4, -1, -6. */
 int64_t milebadger_mark(const milebadger_sheet *sheet, const uint32_t *words, size_t words_len);
+
+/* Marks the claims of a class about the equations that are held: up to 64, each as milebadger_mark marks it alone. What the
+ * equations decide for every claim is computed once. The words are those of the claims, one claim behind the other.
+ *
+ * A claim's first word alone decides how many words it takes, and not the kinds of those behind it: HEAD(h), h at most 17,
+ * takes 1 + h * n, or all that remain where they are fewer. A larger head takes one word, and so does a word of another
+ * kind where a head should stand: each such word is a claim of its own, of wrong shape. So a claim that lacks an entry
+ * takes the next claim's head for it, and that one's entries become claims of one word.
+ *
+ * Asks     Opened? If not, -4.  At most 64 claims? If not, -14.
+ * Needs    marks_len at least the number of claims. MILEBADGER_MOST_CLAIMS is enough for every class.
+ * Writes   a byte for each claim, in their order: MILEBADGER_PASS, MILEBADGER_FAIL, or 100 plus a refusal's number, which
+ *          is 1 or 6. MILEBADGER_MARK(marks[i]) is the result that milebadger_mark has for claim i alone.
+ * Returns  how many claims there are, which may be 0; or -4, -14, -8. */
+int64_t milebadger_class(const milebadger_sheet *sheet, const uint32_t *words, size_t words_len, uint8_t *marks,
+                         size_t marks_len);
+
+/* The result of milebadger_mark that a byte of a class stands for: 101 is MILEBADGER_REFUSED_SHAPE, for which
+ * milebadger_sentence has a sentence. The byte is evaluated twice. */
+#define MILEBADGER_MARK(byte) ((byte) < 100 ? (int64_t)(byte) : 100 - (int64_t)(byte))
 
 /* A tape of calls on one sheet, which begins unopened. A tape is words, each 4 bytes with the low byte first. The first
  * word's kind picks a call and with it how many words the call takes; the next call begins behind them. Each call gives

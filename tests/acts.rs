@@ -33,6 +33,11 @@ pub fn mark(vectors: &[Vec<u32>]) -> Act {
     Act::Mark(ledger::claim(vectors))
 }
 
+/// The words of a class into so many bytes, which hold anything.
+pub fn class(random: &mut Random, words: &[u32], bytes: usize) -> Act {
+    Act::Class(words.to_vec(), (0..bytes).map(|_| random.bits() as u8).collect())
+}
+
 /// An opening, and a call for each equation.
 pub fn entering(system: &System) -> Vec<Act> {
     [open(system.m, system.n as u32)].into_iter().chain(system.equations.iter().map(|equation| add(equation))).collect()
@@ -41,8 +46,10 @@ pub fn entering(system: &System) -> Vec<Act> {
 /// Why the reply is not that of a call which the reference answers so, where `before` is the ledger that it found.
 fn wrong_reply(act: &Act, reply: &Reply, said: &Said, before: &Ledger) -> Option<String> {
     let old = if let Act::Answer(buffer) = act { buffer.clone() } else { vec![] };
+    let old_marks = if let Act::Class(_, marks) = act { marks.clone() } else { vec![] };
     let expected = match (said, reply.outcome) {
         (Said::Answered(solved), outcome) => return wrong_answer(solved, outcome, &old, &reply.buffer, before),
+        (Said::Classed(said), outcome) => return wrong_marks(said, outcome, &old_marks, &reply.marks),
         (Said::Opened { .. }, _) => Outcome::Holds(0),
         (Said::Added(held) | Said::Struck(held), _) => Outcome::Holds(*held),
         (Said::Passed, _) => Outcome::Pass,
@@ -51,7 +58,7 @@ fn wrong_reply(act: &Act, reply: &Reply, said: &Said, before: &Ledger) -> Option
         (Said::PassedOrFailed, _) => Outcome::Fail,
         (Said::Refused(number), _) => Outcome::Refused(*number),
     };
-    let good = Reply { outcome: expected, buffer: old };
+    let good = Reply { outcome: expected, buffer: old, marks: old_marks };
     (*reply != good).then(|| format!("{reply:x?} is not {good:x?}"))
 }
 
@@ -70,24 +77,61 @@ fn wrong_answer(solved: &Solved, outcome: Outcome, old: &[u32], buffer: &[u32], 
     }
 }
 
+/// Why an accepted class is wrong: the number of its claims, a mark, or a byte past them.
+fn wrong_marks(said: &[Said], outcome: Outcome, old: &[u8], marks: &[u8]) -> Option<String> {
+    let count = said.len();
+    if outcome != Outcome::Marked(count) {
+        return Some(format!("{outcome:?} where {count} claims are marked"));
+    }
+    if marks[count..] != old[count..] {
+        return Some(format!("{marks:?} was changed behind byte {count}, it was {old:?}"));
+    }
+    let wrong = (0..count).find(|&place| !is_mark(&said[place], marks[place]))?;
+    Some(format!("claim {wrong} has the mark {}, where {:?} is right", marks[wrong], said[wrong]))
+}
+
+/// "A byte per claim receives 0 fail, 1 pass or the refusal number plus 100."
+fn is_mark(said: &Said, mark: u8) -> bool {
+    match said {
+        Said::Failed => mark == 0,
+        Said::Passed => mark == 1,
+        Said::PassedOrFailed => mark == 0 || mark == 1,
+        Said::Refused(number) => mark as u32 == number + 100,
+        _ => unreachable!("no mark says {said:?}"),
+    }
+}
+
+/// The bytes "that marking each claim singly would give, in that order", on a sheet with these numbers.
+pub fn marked_singly(numbers: &[u32], claims: &[Vec<u32>]) -> Result<Vec<u8>, String> {
+    let mut desk = Desk::with(numbers);
+    let mut byte = |claim: &Vec<u32>| match desk.act(&Act::Mark(claim.clone()))?.outcome {
+        Outcome::Fail => Ok(0),
+        Outcome::Pass => Ok(1),
+        Outcome::Refused(number) => Ok(100 + number as u8),
+        other => Err(format!("{other:?} for a mark")),
+    };
+    claims.iter().map(&mut byte).collect()
+}
+
 /// Which call was refused with which number.
 pub type Tally = BTreeSet<(&'static str, u32)>;
 
 /// "Questions, in order, and the number when the answer is no": every refusal that a direct call can give.
 pub fn all_refusals() -> Tally {
-    let refusals: [(&str, &[u32]); 6] = [
+    let refusals: [(&str, &[u32]); 7] = [
         ("open", &[1, 2, 3]),
         ("add", &[4, 1, 5]),
         ("add text", &[4, 11, 12, 13, 5]),
         ("strike", &[4, 1, 7]),
         ("answer", &[4, 8]),
         ("mark", &[4, 1, 6]),
+        ("class", &[4, 14, 8]),
     ];
     refusals.iter().flat_map(|(name, numbers)| numbers.iter().map(|&number| (*name, number))).collect()
 }
 
-/// Makes a call on a sheet that reads as this ledger, and in the ledger. It does what the reference says, or it is said why not. A
-/// refusal goes to the tally.
+/// Makes a call on a sheet that reads as this ledger, and in the ledger. It does what the reference says, or it is said why not; the
+/// claims of a class are marked singly too. A refusal goes to the tally.
 pub fn step(desk: &mut Desk, ledger: &mut Ledger, act: &Act, tally: &mut Tally) -> Result<Reply, String> {
     let call = match act {
         Act::Open(words) => Call::Open(words.clone()),
@@ -97,6 +141,7 @@ pub fn step(desk: &mut Desk, ledger: &mut Ledger, act: &Act, tally: &mut Tally) 
         Act::Answer(buffer) => Call::Answer(buffer.len()),
         Act::Mark(words) => Call::Mark(words.clone()),
         Act::MarkBlock => Call::Mark(desk.block().to_vec()),
+        Act::Class(words, marks) => Call::Class(words.clone(), marks.len()),
     };
     let before = ledger.clone();
     let said = ledger.run(&call);
@@ -106,6 +151,12 @@ pub fn step(desk: &mut Desk, ledger: &mut Ledger, act: &Act, tally: &mut Tally) 
     }
     if let Said::Refused(number) = said {
         tally.insert((call.name(), number));
+    }
+    if let (Act::Class(words, _), Outcome::Marked(count), Ledger::Opened(system)) = (act, reply.outcome, &before) {
+        let singly = marked_singly(desk.numbers(), &ledger::claims(system.n, words))?;
+        if singly != reply.marks[..count] {
+            return Err(format!("{:?} for a class whose claims get {singly:?} singly, ledger {before:?}", reply.marks));
+        }
     }
     Ok(reply)
 }
@@ -192,7 +243,7 @@ pub fn full_size_system(random: &mut Random, fits: bool) -> System {
 pub fn random_act(random: &mut Random, ledger: &Ledger, filling: bool) -> Act {
     let unopened = System { m: 7, n: 2, equations: vec![] };
     let system = if let Ledger::Opened(system) = ledger { system } else { &unopened };
-    let choice = random.below(if filling { 60 } else { 24 });
+    let choice = random.below(if filling { 62 } else { 26 });
     match choice {
         0 => Act::Open(exercises::opening(random)),
         1 if *ledger == Ledger::Unopened => Act::Open(exercises::opening(random)),
@@ -202,6 +253,11 @@ pub fn random_act(random: &mut Random, ledger: &Ledger, filling: bool) -> Act {
         10..=11 => Act::MarkBlock,
         12..=17 => Act::Mark(exercises::claim(random, system)),
         18..=19 => Act::AddText(spelling::text(random, system.n)),
+        20..=21 => {
+            let words = exercises::class(random, system);
+            let bytes = marks_length(random, ledger::claims(system.n, &words).len());
+            class(random, &words, bytes)
+        }
         _ if filling && chance(random, 3) => Act::AddText(spelling::text(random, system.n)),
         _ => Act::Add(exercises::equation(random, system)),
     }
@@ -215,6 +271,16 @@ fn place(random: &mut Random) -> u32 {
         0 => 0,
         1 => random.bits() as u32,
         _ => pick(random, &WRONG_PLACES),
+    }
+}
+
+/// Exactly as many bytes as there are claims, one less, somewhat more, or any number.
+fn marks_length(random: &mut Random, claims: usize) -> usize {
+    match random.below(6) {
+        0 => claims.saturating_sub(1),
+        1 => random.below(70) as usize,
+        2 => claims + 1 + random.below(4) as usize,
+        _ => claims,
     }
 }
 

@@ -195,6 +195,31 @@ pub fn claim(random: &mut Random, system: &System) -> Vec<u32> {
     sometimes_spoiled(random, words, m)
 }
 
+/// The words of a class: some claims about the equations, one behind the other, or so many of one word each that there may be one too
+/// many. Now and then the last is cut short.
+pub fn class(random: &mut Random, system: &System) -> Vec<u32> {
+    let many = chance(random, 6);
+    let count = if many { 62 + random.below(5) } else { random.below(6) };
+    let mut words = vec![];
+    for _ in 0..count {
+        match random.below(6) {
+            0 => words.push(stray(random)),
+            _ if many => words.push(ledger::word(ledger::HEAD, pick(random, &[0, 18]))),
+            _ => words.extend(claim(random, system)),
+        }
+    }
+    if chance(random, 6) {
+        words.truncate(random.below(words.len() as u64 + 1) as usize);
+    }
+    words
+}
+
+/// A word of another kind than a head's.
+pub fn stray(random: &mut Random) -> u32 {
+    let kind = (ledger::HEAD + 1 + random.below(15) as u32) % 16;
+    ledger::word(kind, pick(random, &[0, 1, 2, 17, 18, (1 << 28) - 1]))
+}
+
 /// The words as they are, or now and then spoiled.
 fn sometimes_spoiled(random: &mut Random, words: Vec<u32>, m: u32) -> Vec<u32> {
     if chance(random, 6) {

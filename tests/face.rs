@@ -47,7 +47,9 @@ pub fn writing(result: i64, numbers: &[u32], len: usize) -> Reply {
 }
 
 pub const GUARD: u32 = 0xFACE_FACE;
-pub const GUARDS: usize = 4;
+
+/// As many as a class has marks: all of them written in front of the lent bytes or behind them show.
+pub const GUARDS: usize = 64;
 
 fn lend(len: usize, call: impl FnOnce(*mut u32, usize) -> i64) -> Reply {
     let mut all = vec![GUARD; GUARDS];

@@ -25,7 +25,12 @@ typedef char room[MILEBADGER_LINES_ROOM(7) == MILEBADGER_LONGEST_ANSWER + 10 ? 1
 
 typedef char size[sizeof(milebadger_sheet) == 1164 ? 1 : -1];
 
-#if MILEBADGER_VERSION < 20000 || MILEBADGER_REFUSED_NOT_LINEAR != -13
+/* What the bytes of a class stand for. */
+typedef char passes[MILEBADGER_MARK(1) == MILEBADGER_PASS && MILEBADGER_MARK(0) == MILEBADGER_FAIL ? 1 : -1];
+typedef char shape[MILEBADGER_MARK(101) == MILEBADGER_REFUSED_SHAPE ? 1 : -1];
+typedef char number[MILEBADGER_MARK(106) == MILEBADGER_REFUSED_NUMBER ? 1 : -1];
+
+#if MILEBADGER_VERSION < 20100 || MILEBADGER_REFUSED_CLAIMS != -14
 #error "names that the preprocessor cannot read"
 #endif
 
@@ -56,6 +61,16 @@ const char *sheet_later(uint32_t *out, size_t out_len)
     if (milebadger_mark(&sheet, out, out_len) == MILEBADGER_PASS)
         return milebadger_sentence(result);
     return milebadger_sentence(MILEBADGER_FAIL);
+}
+
+/* The mark of the first of a class's claims, from a byte that is known only here. */
+const char *class_later(const milebadger_sheet *sheet, const uint32_t *claims, size_t count);
+
+const char *class_later(const milebadger_sheet *sheet, const uint32_t *claims, size_t count)
+{
+    uint8_t marks[MILEBADGER_MOST_CLAIMS] = {0};
+    int64_t result = milebadger_class(sheet, claims, count, marks, sizeof marks);
+    return milebadger_sentence(result > 0 ? MILEBADGER_MARK(marks[0]) : result);
 }
 
 /* The numbers of a congruence may have a sign, and need no cast. */
@@ -89,6 +104,7 @@ int kinds_of_results(int64_t result)
     case MILEBADGER_REFUSED_TEXT:
     case MILEBADGER_REFUSED_BEYOND:
     case MILEBADGER_REFUSED_NOT_LINEAR:
+    case MILEBADGER_REFUSED_CLAIMS:
         return 1;
     default:
         return 2;

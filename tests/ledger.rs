@@ -66,6 +66,22 @@ pub fn claim(vectors: &[Vec<u32>]) -> Vec<u32> {
     [word(HEAD, vectors.len() as u32)].into_iter().chain(vectors.iter().flatten().map(|&x| word(ENTRY, x))).collect()
 }
 
+/// "They come as words one after another .. Each claim's length is taken as on the tape; a word of another kind where a head should
+/// stand is a claim of one word": the words of each claim, of which the last may be cut short.
+pub fn claims(n: usize, words: &[u32]) -> Vec<Vec<u32>> {
+    let (mut claims, mut missing): (Vec<Vec<u32>>, usize) = (vec![], 0);
+    for &word in words {
+        if missing > 0 {
+            claims.last_mut().expect("a head").push(word);
+            missing -= 1;
+        } else {
+            claims.push(vec![word]);
+            missing = if kind(word) == HEAD && number(word) <= 17 { number(word) as usize * n } else { 0 };
+        }
+    }
+    claims
+}
+
 /// The vectors of an answer: the start, then the steps.
 pub fn vectors_of(answer: &Answer) -> Vec<Vec<u32>> {
     [&answer.start].into_iter().chain(&answer.steps).cloned().collect()
@@ -104,7 +120,8 @@ fn is_claim(n: usize, words: &[u32]) -> bool {
 }
 
 /// A call with its arguments other than the sheet. A typed equation has what its text says, if it says anything; a strike has its
-/// place, which is its word's number on tape; an answer has the length of its buffer, or its word on tape.
+/// place, which is its word's number on tape; an answer has the length of its buffer, or its word on tape; a class has the number of
+/// its bytes too.
 #[derive(Clone, Debug, PartialEq)]
 pub enum Call {
     Open(Vec<u32>),
@@ -113,6 +130,7 @@ pub enum Call {
     Strike(u32),
     Answer(usize),
     Mark(Vec<u32>),
+    Class(Vec<u32>, usize),
     AnswerFromTape(u32),
     Meaningless(u32),
 }
@@ -126,6 +144,7 @@ impl Call {
             Call::Strike(_) => "strike",
             Call::Answer(_) => "answer",
             Call::Mark(_) => "mark",
+            Call::Class(..) => "class",
             Call::AnswerFromTape(_) => "answer from tape",
             Call::Meaningless(_) => "meaningless word",
         }
@@ -155,6 +174,8 @@ pub enum Said {
     Failed,
     /// There are too many vectors to try.
     PassedOrFailed,
+    /// What marking each claim singly says.
+    Classed(Vec<Said>),
     Refused(u32),
 }
 
@@ -232,6 +253,10 @@ impl Ledger {
             }
             (Call::Answer(_) | Call::AnswerFromTape(_), Ledger::Opened(system)) => Said::Answered(solve(system)),
             (Call::Mark(words), Ledger::Opened(system)) => mark(system, words),
+            (Call::Class(words, _), Ledger::Opened(system)) => {
+                let claims = claims(system.n, words);
+                Said::Classed(claims.into_iter().map(|claim| self.run(&Call::Mark(claim))).collect())
+            }
             (Call::Meaningless(_), _) => unreachable!("refused with 1"),
         }
     }
@@ -246,6 +271,7 @@ impl Ledger {
             Call::Answer(_) => &[4, 8],
             Call::AnswerFromTape(_) => &[4, 1],
             Call::Mark(_) => &[4, 1, 6],
+            Call::Class(..) => &[4, 14, 8],
             Call::Meaningless(_) => &[1],
         };
         questions.iter().copied().find(|&question| !self.yes(question, call))
@@ -273,6 +299,8 @@ impl Ledger {
             (8, Call::Answer(length)) => block_length(system()).is_none_or(|block| block <= *length),
             (1, Call::Mark(words)) => is_claim(system().n, words),
             (6, Call::Mark(words)) => words[1..].iter().all(|&w| number(w) < system().m),
+            (14, Call::Class(words, _)) => claims(system().n, words).len() <= 64,
+            (8, Call::Class(words, bytes)) => claims(system().n, words).len() <= *bytes,
             (1, Call::Meaningless(_)) => false,
             _ => unreachable!("{call:?} has no question {question}"),
         }

@@ -38,7 +38,7 @@ fn lines(words: &[u32]) -> String {
 #[test]
 fn the_archive_has_the_version_of_the_header() {
     assert_eq!(face::version() as usize, limit("VERSION"));
-    assert_eq!(face::version(), 20_000, "2.0.0");
+    assert_eq!(face::version(), 20_100, "2.1.0");
 }
 
 #[test]
@@ -64,6 +64,16 @@ fn a_sheet_goes_as_far_as_the_header_says() {
         assert_eq!(outcome(Act::Add(equation(&vec![m as i64 - 1; n + 1]))), Outcome::Holds(held));
     }
     assert_eq!(outcome(Act::Add(equation(&vec![m as i64 - 1; n + 1]))), Outcome::Refused(5));
+}
+
+#[test]
+fn a_class_has_as_many_claims_as_the_header_says() {
+    let (mut desk, most) = (Desk::fresh(), limit("MOST_CLAIMS"));
+    let mut outcome = |act: Act| desk.act(&act).unwrap().outcome;
+    assert_eq!(outcome(Act::Open(opening(2, 1))), Outcome::Holds(0));
+    assert_eq!(outcome(Act::Class(vec![word(HEAD, 0); most], vec![0xC0; most - 1])), Outcome::Refused(8));
+    assert_eq!(outcome(Act::Class(vec![word(HEAD, 0); most], vec![0xC0; most])), Outcome::Marked(most));
+    assert_eq!(outcome(Act::Class(vec![word(HEAD, 0); most + 1], vec![0xC0; most + 1])), Outcome::Refused(14));
 }
 
 #[test]

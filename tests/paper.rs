@@ -50,6 +50,31 @@ fn one_congruence_is_as_the_paper_says() {
     }
 }
 
+/// "A class in one call": how its words are cut, what its bytes say, and when it is turned away.
+#[test]
+fn a_class_is_as_the_request_says() {
+    let (head, entry) = (|h: u32| ledger::word(ledger::HEAD, h), |x: u32| ledger::word(ledger::ENTRY, x));
+    let words = [head(1), entry(0), entry(0), entry(0), head(18), head(0), head(2), entry(0), head(0)];
+    let cut = [&words[..3], &words[3..4], &words[4..5], &words[5..6], &words[6..]].map(|claim| claim.to_vec());
+    assert_eq!(ledger::claims(2, &words), cut);
+    assert_eq!(ledger::claims(2, &[]), Vec::<Vec<u32>>::new());
+    let mut sheet = opened(4, 2, &[&[1, 2, 0]]);
+    let one = Said::Refused(1);
+    assert_eq!(
+        sheet.run(&Call::Class(words.to_vec(), 5)),
+        Said::Classed(vec![Said::Failed, one.clone(), one.clone(), Said::Failed, one])
+    );
+    assert_eq!(sheet.run(&Call::Class(words.to_vec(), 4)), Said::Refused(8));
+    assert_eq!(sheet.run(&Call::Class(vec![], 0)), Said::Classed(vec![]));
+    for (claims, bytes, said) in [(64, 64, None), (64, 63, Some(8)), (65, 65, Some(14)), (65, 0, Some(14))] {
+        let expected = said.map_or(Said::Classed(vec![Said::Failed; claims]), Said::Refused);
+        assert_eq!(sheet.run(&Call::Class(vec![head(0); claims], bytes)), expected, "{claims} claims, {bytes} bytes");
+    }
+    for call in [Call::Class(vec![], 0), Call::Class(vec![head(0); 65], 0)] {
+        assert_eq!(Ledger::Unopened.run(&call), Said::Refused(4));
+    }
+}
+
 #[test]
 fn a_residue_is_the_only_number_below_m_that_differs_by_a_multiple_of_m() {
     for (m, whole, residue) in [

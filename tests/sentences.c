@@ -1,4 +1,5 @@
-/* milebadger_sentence: every refusal has a sentence of its own, every other result one of two. */
+/* milebadger_sentence: every refusal has a sentence of its own, also where a byte of a class stands for it, every other result one of
+ * two. */
 #include <stdio.h>
 #include <string.h>
 
@@ -16,14 +17,14 @@ int main(void)
         MILEBADGER_REFUSED_SHAPE, MILEBADGER_REFUSED_MODULUS, MILEBADGER_REFUSED_UNKNOWNS, MILEBADGER_REFUSED_UNOPENED,
         MILEBADGER_REFUSED_FULL, MILEBADGER_REFUSED_NUMBER, MILEBADGER_REFUSED_NOTHING_TO_STRIKE, MILEBADGER_REFUSED_BUFFER,
         MILEBADGER_REFUSED_LEFT_OVER, MILEBADGER_REFUSED_TAPE, MILEBADGER_REFUSED_TEXT, MILEBADGER_REFUSED_BEYOND,
-        MILEBADGER_REFUSED_NOT_LINEAR,
+        MILEBADGER_REFUSED_NOT_LINEAR, MILEBADGER_REFUSED_CLAIMS,
     };
-    const int64_t made[] = {MILEBADGER_FAIL, MILEBADGER_PASS, 16, INT64_MAX}, none[] = {-14, -15, INT64_MIN};
-    const char *sentence[13];
+    const int64_t made[] = {MILEBADGER_FAIL, MILEBADGER_PASS, 16, INT64_MAX}, none[] = {-15, -16, INT64_MIN};
+    const char *sentence[14];
 
-    for (int i = 0; i < 13; i++) {
+    for (int i = 0; i < 14; i++) {
         sentence[i] = milebadger_sentence(refused[i]);
-        if (refused[i] != -(i + 1) || strlen(sentence[i]) < 10)
+        if (refused[i] != -(i + 1) || MILEBADGER_MARK(101 + i) != refused[i] || strlen(sentence[i]) < 10)
             return fault(refused[i], sentence[i]);
         for (int j = 0; j < i; j++)
             if (strcmp(sentence[i], sentence[j]) == 0)
@@ -32,6 +33,9 @@ int main(void)
     for (int i = 0; i < 4; i++)
         if (strcmp(milebadger_sentence(made[i]), "done") != 0)
             return fault(made[i], milebadger_sentence(made[i]));
+    for (uint8_t byte = MILEBADGER_FAIL; byte <= MILEBADGER_PASS; byte++)
+        if (MILEBADGER_MARK(byte) != byte)
+            return fault(MILEBADGER_MARK(byte), "a mark of another byte");
     for (int i = 0; i < 3; i++)
         if (strcmp(milebadger_sentence(none[i]), "no result of this library") != 0)
             return fault(none[i], milebadger_sentence(none[i]));

@@ -23,6 +23,7 @@ for name, arguments in {
     "strike": [ctypes.POINTER(Sheet), ctypes.c_uint32],
     "answer": [ctypes.POINTER(Sheet), Words, ctypes.c_size_t],
     "mark": [ctypes.POINTER(Sheet), Words, ctypes.c_size_t],
+    "class": [ctypes.POINTER(Sheet), Words, ctypes.c_size_t, ctypes.POINTER(ctypes.c_uint8), ctypes.c_size_t],
 }.items():
     function = getattr(library, "milebadger_" + name)
     function.argtypes = arguments
@@ -83,6 +84,7 @@ out = (ctypes.c_uint32 * 273)(*([0xC0DEC0DE] * 273))
 refused(-4, "answer", out, 273)
 refused(-4, "strike", 0)
 refused(-4, "add_text", *text(b"x1 = 0"))
+refused(-4, "class", words((HEAD, 0)), 1, (ctypes.c_uint8 * 1)(0xC0), 1)
 refused(-2, "open", words((MODULUS, 65536), (UNKNOWNS, 2)), 2)
 same(lend("open", words((MODULUS, 4), (UNKNOWNS, 2))), 0)
 refused(-7, "strike", 0)
@@ -102,6 +104,19 @@ same(lend("mark", block(2, 0, 0, 0, 2)), 0)
 refused(-1, "mark", block(2, 0, 0, 0), 4)
 refused(-1, "mark", block(1, 0, 0, kind=MINUS_RIGHT), 3)
 refused(-6, "mark", block(1, 0, 4), 3)
+
+# Those claims as a class: one byte each, and the bytes past them are kept. A stray word, and a claim that breaks off, are claims too.
+claims = [block(2, 0, 0, 2, 3), block(2, 0, 0, 0, 2), block(1, 0, 4), words((ENTRY, 0)), words((HEAD, 0)), block(2, 0, 0, 0)]
+together = (ctypes.c_uint32 * sum(map(len, claims)))(*(word for claim in claims for word in claim))
+marks = (ctypes.c_uint8 * 8)(*[0xC0] * 8)
+refused(-8, "class", together, len(together), marks, 5)
+same(call("class", together, len(together), marks, 6), 6)
+same(marks[:], [1, 0, 106, 101, 0, 101, 0xC0, 0xC0])
+singly = [lend("mark", claim) for claim in claims]
+same(marks[:6], [mark if mark >= 0 else 100 - mark for mark in singly])
+refused(-14, "class", words(*[(HEAD, 0)] * 65), 65, marks, 8)
+same(call("class", words(), 0, marks, 0), 0)
+same(marks[:], [1, 0, 106, 101, 0, 101, 0xC0, 0xC0])
 
 # The same equation once more: mod 4, -3 is 1, 268,435,454 is 2, and -8 is 0. So the sheet is that of the residues.
 plain = Sheet.from_buffer_copy(sheet)

@@ -1,5 +1,5 @@
-//! The calls on a sheet as Rust sees them. The sheet, the words, the text and the buffer lie in memory with a guard on both sides,
-//! and after each call everything that it may not write is compared with what it was.
+//! The calls on a sheet as Rust sees them. The sheet, the words, the text, the buffer and the marks lie in memory with a guard on
+//! both sides, and after each call everything that it may not write is compared with what it was.
 #![allow(dead_code)]
 
 use crate::face::{GUARD, GUARDS};
@@ -20,6 +20,7 @@ extern "C" {
     fn milebadger_strike(sheet: *mut Sheet, place: u32) -> i64;
     fn milebadger_answer(sheet: *const Sheet, out: *mut u32, out_len: usize) -> i64;
     fn milebadger_mark(sheet: *const Sheet, words: *const u32, words_len: usize) -> i64;
+    fn milebadger_class(sheet: *const Sheet, words: *const u32, words_len: usize, marks: *mut u8, marks_len: usize) -> i64;
 }
 
 /// A call on the sheet with its arguments.
@@ -35,6 +36,8 @@ pub enum Act {
     Mark(Vec<u32>),
     /// The words that the last accepted answer wrote, marked where they lie.
     MarkBlock,
+    /// The words of all claims, into bytes with this content.
+    Class(Vec<u32>, Vec<u8>),
 }
 
 impl Act {
@@ -51,24 +54,28 @@ pub enum Outcome {
     Wrote(usize),
     Pass,
     Fail,
+    /// So many claims of a class.
+    Marked(usize),
 }
 
-/// An outcome, and the whole buffer after an answer.
+/// An outcome, the whole buffer after an answer, and all bytes after a class.
 #[derive(Clone, Debug, PartialEq)]
 pub struct Reply {
     pub outcome: Outcome,
     pub buffer: Vec<u32>,
+    pub marks: Vec<u8>,
 }
 
 /// What the result says, where the call may have it at all.
 fn read(act: &Act, result: i64) -> Option<Outcome> {
     match (act, result) {
-        (_, -8..=-1) | (Act::AddText(_), -13..=-11) => Some(Outcome::Refused(-result as u32)),
+        (_, -8..=-1) | (Act::AddText(_), -13..=-11) | (Act::Class(..), -14) => Some(Outcome::Refused(-result as u32)),
         (Act::Open(_), 0) => Some(Outcome::Holds(0)),
         (Act::Add(_) | Act::AddText(_) | Act::Strike(_), 0..=16) => Some(Outcome::Holds(result as usize)),
         (Act::Answer(buffer), 1..) if result <= buffer.len() as i64 => Some(Outcome::Wrote(result as usize)),
         (Act::Mark(_) | Act::MarkBlock, 1) => Some(Outcome::Pass),
         (Act::Mark(_) | Act::MarkBlock, 0) => Some(Outcome::Fail),
+        (Act::Class(_, marks), 0..) if result <= marks.len() as i64 => Some(Outcome::Marked(result as usize)),
         _ => None,
     }
 }
@@ -84,12 +91,21 @@ impl Lent<u32> {
     fn numbers(numbers: &[u32]) -> Lent<u32> {
         Lent::new(GUARD, numbers)
     }
+
+    /// Beside the claims of a class there are entries, with which the last one would be whole where it breaks off.
+    fn claims(words: &[u32]) -> Lent<u32> {
+        Lent::new(6 << 28, words)
+    }
 }
 
 impl Lent<u8> {
-    /// Beside the text there are digits, with which it would say something else.
-    fn text(text: &[u8]) -> Lent<u8> {
-        Lent::new(b'1', text)
+    /// Beside the text there are digits, with which it would say something else; beside marks there are bytes that are none.
+    fn bytes(act: &Act) -> Lent<u8> {
+        match act {
+            Act::AddText(text) => Lent::new(b'1', text),
+            Act::Class(_, marks) => Lent::new(0xFA, marks),
+            _ => Lent::new(b'1', &[]),
+        }
     }
 }
 
@@ -144,45 +160,50 @@ impl Desk {
         let before = self.sheet.clone();
         let mut lent = match act {
             Act::Open(words) | Act::Add(words) | Act::Mark(words) | Act::Answer(words) => Lent::numbers(words),
+            Act::Class(words, _) => Lent::claims(words),
             Act::AddText(_) | Act::Strike(_) => Lent::numbers(&[]),
             Act::MarkBlock => std::mem::replace(&mut self.buffer, Lent::numbers(&[])),
         };
-        let mut text = Lent::text(if let Act::AddText(text) = act { text } else { &[] });
-        let (old, old_text) = (lent.clone(), text.clone());
+        let mut bytes = Lent::bytes(act);
+        let (old, old_bytes) = (lent.clone(), bytes.clone());
         let len = if *act == Act::MarkBlock { self.wrote } else { old.own().len() };
-        let result = call(act, self.sheet.start() as *mut Sheet, lent.start(), len, text.start());
+        let result = call(act, self.sheet.start() as *mut Sheet, lent.start(), len, bytes.start());
         let outcome = read(act, result).ok_or(format!("no call has the result {result}"))?;
-        let (refused, answers) = (matches!(outcome, Outcome::Refused(_)), matches!(act, Act::Answer(_)));
+        let refused = matches!(outcome, Outcome::Refused(_));
+        let (answers, marks) = (matches!(act, Act::Answer(_)), matches!(act, Act::Class(..)));
         let faults = [
             ("written beside the sheet", !self.sheet.guarded()),
             ("the sheet was written", self.sheet != before && (refused || !act.changes_the_sheet())),
             ("written beside the words or the buffer", !lent.guarded()),
             ("the words or the buffer were written", lent != old && (refused || !answers)),
-            ("the text or what is beside it was written", text != old_text),
+            ("written beside the text or the marks", !bytes.guarded()),
+            ("the text or the marks were written", bytes != old_bytes && (refused || !marks)),
         ];
         if let Some((fault, _)) = faults.iter().find(|(_, found)| *found) {
             return Err(format!("{fault} at {outcome:?}"));
         }
         let buffer = if answers { lent.own().to_vec() } else { vec![] };
+        let marks = if marks { bytes.own().to_vec() } else { vec![] };
         match (act, outcome) {
             (Act::Answer(_), Outcome::Wrote(length)) => (self.buffer, self.wrote) = (lent, length),
             (Act::MarkBlock, _) => self.buffer = lent,
             _ => {}
         }
-        Ok(Reply { outcome, buffer })
+        Ok(Reply { outcome, buffer, marks })
     }
 }
 
-/// The call itself, with words or a buffer of this length at `memory`, or its bytes at `text`.
-fn call(act: &Act, sheet: *mut Sheet, memory: *mut u32, len: usize, text: *const u8) -> i64 {
+/// The call itself, with words or a buffer of this length at `memory`, and its text or its marks at `bytes`.
+fn call(act: &Act, sheet: *mut Sheet, memory: *mut u32, len: usize, bytes: *mut u8) -> i64 {
     unsafe {
         match act {
             Act::Open(_) => milebadger_open(sheet, memory, len),
             Act::Add(_) => milebadger_add(sheet, memory, len),
-            Act::AddText(bytes) => milebadger_add_text(sheet, text, bytes.len()),
+            Act::AddText(text) => milebadger_add_text(sheet, bytes, text.len()),
             Act::Strike(place) => milebadger_strike(sheet, *place),
             Act::Answer(_) => milebadger_answer(sheet, memory, len),
             Act::Mark(_) | Act::MarkBlock => milebadger_mark(sheet, memory, len),
+            Act::Class(_, marks) => milebadger_class(sheet, memory, len, bytes, marks.len()),
         }
     }
 }

@@ -10,7 +10,8 @@ mod reference;
 mod sheet;
 mod spelling;
 
-use acts::{add, add_text, all_refusals, answer, entering, mark, open, random_act, random_system, step, Tally, WRONG_PLACES};
+use acts::{add, add_text, all_refusals, answer, class, entering, mark, open, random_act, random_system, step};
+use acts::{Tally, WRONG_PLACES};
 use exercises::{chance, pick};
 use face::LONGEST_BLOCK;
 use ledger::{number, Ledger};
@@ -76,7 +77,7 @@ fn after(numbers: &[u32], act: &Act, outcome: Outcome) -> Vec<u32> {
             enter(&mut numbers, line);
         }
         (Act::Strike(_), _) => numbers[HELD] -= 1,
-        (Act::Answer(_) | Act::Mark(_) | Act::MarkBlock, _) => {}
+        (Act::Answer(_) | Act::Mark(_) | Act::MarkBlock | Act::Class(..), _) => {}
     }
     numbers
 }
@@ -100,6 +101,7 @@ fn expect_each(random: &mut Random, numbers: &[u32], tally: &mut Tally) {
     let system = if let Ledger::Opened(system) = reading(numbers) { system } else { unopened };
     let (ones, plus) = (vec![1; system.n], vec![1; system.n]);
     let minus = vec![-(system.m as i64) - 1; system.n];
+    let (claims, stray) = (exercises::class(random, &system), [exercises::stray(random)]);
     for act in [
         open(5, 3),
         open(1, 1),
@@ -122,6 +124,11 @@ fn expect_each(random: &mut Random, numbers: &[u32], tally: &mut Tally) {
         mark(&[ones.clone()]),
         mark(&vec![vec![0; system.n]; 18]),
         Act::MarkBlock,
+        class(random, &[], 0),
+        class(random, &claims, 64),
+        class(random, &stray.repeat(64), 64),
+        class(random, &stray.repeat(64), 63),
+        class(random, &stray.repeat(65), 63),
     ] {
         expect(&mut Desk::with(numbers), &act, random.seed, tally);
     }
@@ -202,7 +209,13 @@ fn zeroed_memory_is_an_unopened_sheet() {
     let acts = words.iter().flat_map(|words| [Act::Add(words.clone()), Act::Mark(words.clone())]);
     let texts = ["x1 = 1", "1 = 1", "", "=", "x1*x1 = 0", "x16 = 0"].map(add_text);
     let strikes = WRONG_PLACES.iter().chain(&[0]).map(|&place| Act::Strike(place));
-    for act in acts.chain(texts).chain(strikes).chain([0, 1, 2, LONGEST_BLOCK].map(answer)).chain([Act::MarkBlock]) {
+    let marks = |bytes: usize| vec![0xC0; bytes];
+    let classes = words.iter().map(|words| Act::Class(words.clone(), marks(64))).chain([0, 1, 64, 65, 1_000].map(|count| {
+        // more claims than may be, and fewer bytes than claims
+        Act::Class(ledger::claim(&[]).repeat(count), marks(count / 2))
+    }));
+    let others = [0, 1, 2, LONGEST_BLOCK].map(answer).into_iter().chain([Act::MarkBlock]).chain(classes);
+    for act in acts.chain(texts).chain(strikes).chain(others) {
         let mut desk = Desk::fresh();
         assert_eq!(expect(&mut desk, &act, 0, &mut tally), Outcome::Refused(4), "{act:x?}");
         assert_eq!(desk.numbers(), [0; NUMBERS]);

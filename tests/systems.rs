@@ -197,8 +197,9 @@ fn a_solution_has_just_one_writing_and_there_are_as_many_as_the_ranges_allow() {
     }
 }
 
-/// Moduli of the full-size systems: the sheet's largest, its neighbour, the largest power of 2, the largest number, and primes.
-const MODULI: [u32; 8] = [65_535, 65_536, 1 << 31, u32::MAX, 2, 65_521, 4_294_967_291, 12];
+/// Moduli of the full-size systems: the sheet's largest, its neighbour, the last that sums of products are made for in one way and the
+/// first for another, the largest power of 2, the largest number, and primes.
+const MODULI: [u32; 10] = [65_535, 65_536, 1 << 24, (1 << 24) + 1, 1 << 31, u32::MAX, 2, 65_521, 4_294_967_291, 12];
 
 #[test]
 fn full_size_systems_are_right_by_substitution_and_by_certificate() {

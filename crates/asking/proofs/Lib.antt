@@ -1,3 +1,4 @@
 -- Laws for the proofs of the questions.
 pub mod Asked
 pub mod ClaimSeen
+pub mod Classed

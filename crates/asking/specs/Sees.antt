@@ -4,6 +4,7 @@ use Prim.Native.Nat.{ℕ, _+_}
 use lib.ListN.{length}
 use Rattle.ledger.specs.Ledger.{Ledger, isOpened, modulusOf, unknownsOf, equationsIn, mostUnknowns}
 use Rattle.ledger.specs.Block.{longestBlock}
+use Rattle.ledger.specs.Classes.{mostClaims}
 use Rattle.asking.specs.declared.Seen.{Seen}
 
 -- what is seen of a sheet that reads as this ledger
@@ -22,3 +23,7 @@ equationRoom = mostUnknowns + 2
 
 abbrev pub claimRoom : ℕ
 claimRoom = longestBlock + 1
+
+-- so many claims of a class are counted: one more than are marked
+abbrev pub countedClaims : ℕ
+countedClaims = mostClaims + 1

@@ -1,4 +1,5 @@
--- Three tables.
+-- Four tables.
 pub mod Starred
 pub mod Typed
 pub mod Signed
+pub mod Classes

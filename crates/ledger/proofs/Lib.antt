@@ -9,3 +9,4 @@ pub mod Refusals
 pub mod Typing
 pub mod Effects
 pub mod History
+pub mod Classes

@@ -13,7 +13,8 @@ use Rattle.grammar.specs.Texts.{isTyped, isWithin, isLinear}
 use Rattle.ledger.specs.Ledger.{Ledger, isOpened, modulusOf, unknownsOf, equationsIn, mostEquations, mostUnknowns}
 use Rattle.ledger.specs.Shapes.{numberAt, isOpening, isEquation, isClaim, entriesOf}
 use Rattle.ledger.specs.Block.{answerWords}
-use Rattle.ledger.specs.Calls.{Call, opens, adds, types, strikes, answers, answersFromTape, marks, meaningless, enters, queries}
+use Rattle.ledger.specs.Classes.{mostClaims, claimsIn}
+use Rattle.ledger.specs.Calls.{Call, opens, adds, types, strikes, answers, answersFromTape, marks, classes, meaningless, enters, queries}
 
 -- "n 1..16?"
 abbrev pub allowedUnknowns : ℕ → Bool
@@ -58,6 +59,12 @@ questions l (queries (marks ws)) =
     asks 4 (isOpened l)
     ∷ asks 1 (isClaim (unknownsOf l) (wordsIn ws))
     ∷ asks 6 (allBelow (modulusOf l) (entriesOf (wordsIn ws)))
+    ∷ []
+-- "Turned away: after 4, over 64 claims 14; then too few bytes 8."
+questions l (queries (classes ws bytes)) =
+    asks 4 (isOpened l)
+    ∷ asks 14 (leb (length (claimsIn (unknownsOf l) ws)) mostClaims)
+    ∷ asks 8 (leb (length (claimsIn (unknownsOf l) ws)) (length bytes))
     ∷ []
 -- "A first word of kind 0, 2, 4, 6, 7 or 10..15 is refused with 1, opened or not.": all of these but 10, which begins an add
 questions l (queries (meaningless w)) = asks 1 false ∷ []

@@ -25,6 +25,8 @@ use Rattle.sheet.specs.declared.answering.Answered.{Answered}
 use Rattle.sheet.specs.declared.answering.Answered.the-variants.{Wrote as Answered·Wrote, Refused as Answered·Refused}
 use Rattle.sheet.specs.declared.marking.Marked.{Marked}
 use Rattle.sheet.specs.declared.marking.Marked.the-variants.{Gets, Refused as Marked·Refused}
+use Rattle.sheet.specs.declared.classing.Classed.{Classed}
+use Rattle.sheet.specs.declared.classing.Classed.the-variants.{Claims, Refused as Classed·Refused}
 use Rattle.safe.specs.declared.Turned.{Turned}
 use Rattle.safe.specs.declared.Turned.the-variants.{Wrote, NoTurns, Refused as Turned·Refused}
 use Rattle.tape.specs.Output.{mostBytes, lines}
@@ -33,12 +35,12 @@ use Rattle.tape.specs.Output.{mostBytes, lines}
 abbrev pub minus : ℕ → ℤ
 minus k = negℤ (pos k)
 
--- 10,000 times the major, 100 times the minor and the patch number: 2.0.0
+-- 10,000 times the major, 100 times the minor and the patch number: 2.1.0
 abbrev pub version : ℕ
-version = 20000
+version = 20100
 
--- What the calls on a sheet give back, as a result: "the equations then held", how many words the block has, or 1 for a pass and 0 for
--- a fail; or minus the number of the refusal.
+-- What the calls on a sheet give back, as a result: "the equations then held", how many words the block has, 1 for a pass and 0 for a
+-- fail, or how many claims a class has; or minus the number of the refusal.
 unfoldable pub enteredResult : Entered → ℤ
 enteredResult (Holds k) = pos k
 enteredResult (Entered·Refused k) = minus k
@@ -50,6 +52,10 @@ answeredResult (Answered·Refused k) = minus k
 unfoldable pub markedResult : Marked → ℤ
 markedResult (Gets mark) = pos (markNumber mark)
 markedResult (Marked·Refused k) = minus k
+
+unfoldable pub classedResult : Classed → ℤ
+classedResult (Claims k) = pos k
+classedResult (Classed·Refused k) = minus k
 
 -- a call replied: it returned r, and the lent memory went from `old` to `new`
 pub record Replied (reply : Reply ℤ) (old new : List ℕ) (r : ℤ) : Type 0 where

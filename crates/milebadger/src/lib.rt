@@ -27,8 +27,8 @@ const FEW: u32 = 4;
 
 const FEW_NUMBERS: usize = 20;
 
-// The header's: 10,000 · 2 + 100 · 0 + 0.
-const VERSION: u32 = 20000;
+// The header's: 10,000 · 2 + 100 · 1 + 0.
+const VERSION: u32 = 20100;
 
 #[no_mangle]
 pub extern "C" fn milebadger_version() -> u32

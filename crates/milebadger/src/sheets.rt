@@ -3,13 +3,14 @@
 ghost use mathlib.Core.Path.{_≡_};
 ghost use Rattle.ledger.specs.Calls.{opens, adds, types, strikes};
 ghost use Rattle.sheet.specs.Record.{ledgerOf};
-ghost use Rattle.sheet.specs.Calls.{enteredOf, sheetAfter, answeredOf, bufferAfter, markedOf};
-ghost use Rattle.milebadger.specs.Calls.{enteredResult, answeredResult, markedResult};
+ghost use Rattle.sheet.specs.Calls.{enteredOf, sheetAfter, answeredOf, bufferAfter, markedOf, classedOf, marksAfter};
+ghost use Rattle.milebadger.specs.Calls.{enteredResult, answeredResult, markedResult, classedResult};
 use crate::replying::entered_result;
 use crate::replying::mark_result;
 use crate::replying::refuse;
 use sheet::Sheet;
 use sheet::answering::Answered;
+use sheet::classing::Classed;
 use sheet::marking::Marked;
 
 // Opens the sheet: 0.
@@ -74,5 +75,22 @@ pub extern "C" fn milebadger_mark(sheet: &[u32; Sheet::SIZE], words: &[u32]) -> 
     match marked {
         Marked::Gets(mark) => mark_result(mark),
         Marked::Refused(number) => refuse(number),
+    }
+}
+
+// Marks the claims of a class, which lie one after another, and writes a byte for each: how many claims there are.
+#[no_mangle]
+pub extern "C" fn milebadger_class(
+    sheet: &[u32; Sheet::SIZE],
+    words: &[u32],
+    marks: &mut [u8],
+) -> i64
+    ensures { λ r. ⌜ r ≡ classedResult (classedOf (ledgerOf (now (sheet .entry))) (now (words .entry)) (now (marks .entry))) ⌝ }
+    ensures { λ _. ⌜ now (marks .exit) ≡ marksAfter (ledgerOf (now (sheet .entry))) (now (words .entry)) (now (marks .entry)) ⌝ }
+{
+    let classed = Sheet::class(sheet, words, marks);
+    match classed {
+        Classed::Claims(claims) => claims as i64,
+        Classed::Refused(number) => refuse(number),
     }
 }

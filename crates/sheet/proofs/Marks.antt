@@ -1,4 +1,5 @@
 -- A mark is right: what demand 3 says of it.
+--   marked-accepted    an accepted claim gets its mark
 --   well-accepted      a well-formed claim is accepted
 --   mark-tells         and what is a function of its mark tells whether it describes the solutions of the ledger's equations
 --   right-mark         so it is marked
@@ -35,7 +36,7 @@ use Rattle.sheet.specs.declared.marking.Marked.the-variants.{Gets}
 use Rattle.sheet.specs.Calls.{markedOf}
 use Rattle.sheet.specs.Promises.{WellFormed, DescribesSolutions, RightMark}
 
-marked-accepted : (l : Ledger) (ws : List ℕ) → refusalOf l (queries (marks ws)) ≡ 0 → markedOf l ws ≡ Gets (claimMark l ws)
+pub marked-accepted : (l : Ledger) (ws : List ℕ) → refusalOf l (queries (marks ws)) ≡ 0 → markedOf l ws ≡ Gets (claimMark l ws)
 unfolding markedOf
 marked-accepted l ws accepted = rw accepted
 

@@ -1,15 +1,18 @@
 -- What each call gives back, and what it leaves of the sheet and of lent memory. But for the sheet's new numbers, all of it is
 -- said of the ledger that the sheet reads as. Definitions only.
-use mathlib.Core.List.{List, [], _∷_}
-use Prim.Native.Nat.{ℕ}
+use mathlib.Core.List.{List, [], _∷_, map}
+use Prim.Native.Nat.{ℕ, _+_}
+use lib.Dec.{leb}
 use lib.ListN.{length, replicate}
 use Rattle.questions.specs.Questions.{asks, firstNo, unlessRefused}
 use Rattle.questions.specs.Reply.{Reply, gives, refuses, resultOf, memoryAfter}
+use Rattle.equations.specs.Claim.{markNumber}
 use Rattle.system.specs.declared.solving.Answer.{Answer}
 use Rattle.system.specs.Block.{answerOf}
 use Rattle.ledger.specs.Ledger.{Ledger, isOpened, modulusOf, unknownsOf, equationsIn}
 use Rattle.ledger.specs.Block.{answerWords}
 use Rattle.ledger.specs.Marking.{claimMark}
+use Rattle.ledger.specs.Classes.{mostClaims, claimsIn}
 use Rattle.ledger.specs.Calls.{Entry, answersFromTape, marks, enters, queries}
 use Rattle.ledger.specs.Questions.{refusalOf}
 use Rattle.ledger.specs.History.{effectOf, enter}
@@ -20,6 +23,8 @@ use Rattle.sheet.specs.declared.answering.Answered.the-variants.{Wrote, 
 use Rattle.sheet.specs.declared.answering.Shown.{Shown}
 use Rattle.sheet.specs.declared.marking.Marked.{Marked}
 use Rattle.sheet.specs.declared.marking.Marked.the-variants.{Gets, Refused as Marked·Refused}
+use Rattle.sheet.specs.declared.classing.Classed.{Classed}
+use Rattle.sheet.specs.declared.classing.Classed.the-variants.{Claims, Refused as Classed·Refused}
 use Rattle.sheet.specs.Record.{Sheet, ledgerOf, recordBy}
 
 -- Open, add and strike: "the equations then held", or the number of the question that turned the call away.
@@ -55,3 +60,28 @@ shownOf l w =
 -- Mark: the mark, or the number of the question that turned the claim away.
 unfoldable pub markedOf : Ledger → List ℕ → Marked
 markedOf l ws = unlessRefused Marked·Refused (refusalOf l (queries (marks ws))) (Gets (claimMark l ws))
+
+-- A class. "a byte per claim receives 0 fail, 1 pass or the refusal number plus 100"
+abbrev pub markByte : Marked → ℕ
+markByte (Gets mark) = markNumber mark
+markByte (Marked·Refused k) = 100 + k
+
+-- the claims of a class on this ledger, and their bytes: "those that marking each claim singly would give, in that order"
+abbrev pub claimsOf : Ledger → List ℕ → List (List ℕ)
+claimsOf l ws = claimsIn (unknownsOf l) ws
+
+abbrev pub classBytes : Ledger → List ℕ → List ℕ
+classBytes l ws = map (λ (claim : List ℕ). markByte (markedOf l claim)) (claimsOf l ws)
+
+-- The bytes, and how many claims there are. "Turned away: after 4, over 64 claims 14"; 8 is asked of every reply.
+abbrev pub classReply : Ledger → List ℕ → Reply Classed
+classReply l ws =
+    unlessRefused refuses (firstNo (asks 4 (isOpened l) ∷ asks 14 (leb (length (claimsOf l ws)) mostClaims) ∷ []))
+    (gives (Claims (length (claimsOf l ws))) (classBytes l ws))
+
+-- what it gives back and what it leaves of bytes that held `old`
+unfoldable pub classedOf : Ledger → List ℕ → List ℕ → Classed
+classedOf l ws old = resultOf Classed·Refused (classReply l ws) old
+
+unfoldable pub marksAfter : Ledger → List ℕ → List ℕ → List ℕ
+marksAfter l ws old = memoryAfter (classReply l ws) old

@@ -1,9 +1,10 @@
 -- Demand 3, in the customer's words, and what stands beside it. Each promise is a type; proofs/Promises.antt keeps it.
 --
--- Why this is about the code: `enteredOf`, `sheetAfter`, `answeredOf`, `bufferAfter`, `shownOf` and `markedOf` are what the contracts of
--- open, add, strike, answer and mark say that the calls give back and leave, those of the C calls too, for every sheet, all words and any
--- buffer. `after` puts the sheet that a call left into the next call. So `after calls` is what the caller's memory holds after the calls,
--- and what is promised here of those names at that sheet is what the next call does. `ledger` sees the calls alone. Definitions only.
+-- Why this is about the code: `enteredOf`, `sheetAfter`, `answeredOf`, `bufferAfter`, `shownOf`, `markedOf`, `classedOf` and `marksAfter` are
+-- what the contracts of open, add, strike, answer, mark and class say that the calls give back and leave, those of the C calls too, for
+-- every sheet, all words and any buffer. `after` puts the sheet that a call left into the next call. So `after calls` is what the caller's
+-- memory holds after the calls, and what is promised here of those names at that sheet is what the next call does. `ledger` sees the
+-- calls alone. Definitions only.
 use mathlib.Core.Path.{_≡_}
 use mathlib.Core.Logic.{_↔_, _⊎_}
 use mathlib.Core.List.{List, [], _∷_, _++_, flatten}
@@ -31,7 +32,8 @@ use Rattle.ledger.specs.Allowed.{Allowed}
 use Rattle.ledger.specs.Shapes.{isEquation, isClaim, entriesOf, claimFrom}
 use Rattle.ledger.specs.Block.{longestBlock, blockWords, answerWords}
 use Rattle.ledger.specs.Marking.{claimMark}
-use Rattle.ledger.specs.Calls.{Call, Entry, opens, adds, types, answers, answersFromTape, marks, enters, queries}
+use Rattle.ledger.specs.Classes.{mostClaims, claimsIn}
+use Rattle.ledger.specs.Calls.{Call, Entry, opens, adds, types, answers, answersFromTape, marks, classes, enters, queries}
 use Rattle.ledger.specs.Questions.{plain, refusalOf}
 use Rattle.ledger.specs.History.{enter, ledgerFrom, ledger}
 use Rattle.sheet.specs.declared.Entered.the-variants.{Holds, Refused as Entered·Refused}
@@ -39,8 +41,9 @@ use Rattle.sheet.specs.declared.answering.Answered.the-variants.{Wrote, 
 use Rattle.sheet.specs.declared.answering.Shown.{Shown}
 use Rattle.sheet.specs.declared.marking.Marked.{Marked}
 use Rattle.sheet.specs.declared.marking.Marked.the-variants.{Gets, Refused as Marked·Refused}
+use Rattle.sheet.specs.declared.classing.Classed.the-variants.{Claims, Refused as Classed·Refused}
 use Rattle.sheet.specs.Record.{Sheet, size, ledgerOf}
-use Rattle.sheet.specs.Calls.{enteredOf, sheetAfter, answeredOf, bufferAfter, noBlock, shownOf, markedOf}
+use Rattle.sheet.specs.Calls.{enteredOf, sheetAfter, answeredOf, bufferAfter, noBlock, shownOf, markedOf, markByte, claimsOf, classedOf, marksAfter}
 use Rattle.sheet.specs.History.{left, sheetFrom, after}
 
 -- "refused calls anywhere in it and at least one opening accepted": by the questions, asked of the ledger at that place
@@ -134,10 +137,15 @@ pub record Decided (calls : List Call) : Type 0 where
   pub marking : (ws : List ℕ)
       → markedOf (ledgerOf (after calls)) ws
       ≡ unlessRefused Marked·Refused (refusalOf (ledger calls) (queries (marks ws))) (Gets (claimMark (ledger calls) ws))
+  pub classing : (ws old : List ℕ)
+      → classedOf (ledgerOf (after calls)) ws old
+      ≡ unlessRefused Classed·Refused (refusalOf (ledger calls) (queries (classes ws old))) (Claims (length (claimsOf (ledger calls) ws)))
   -- "and then the sheet and all lent memory hold what they held": the sheet after queries too, since a caller has one then
   pub sheetKept : (c : Call) → 0 < refusalOf (ledger calls) c → left (after calls) c ≡ after calls
   pub bufferKept : (old : List ℕ) → 0 < refusalOf (ledger calls) (queries (answers old))
       → bufferAfter (ledgerOf (after calls)) old ≡ old
+  pub marksKept : (ws old : List ℕ) → 0 < refusalOf (ledger calls) (queries (classes ws old))
+      → marksAfter (ledgerOf (after calls)) ws old ≡ old
 
 abbrev pub DecidedAlways : Type 0
 DecidedAlways = (calls : List Call) → Decided calls
@@ -176,6 +184,31 @@ pub record RightAdding (s : Sheet) (m n : ℕ) (es : List Equation) (ws : List �
 -- Whatever the memory holds, and so after every list of calls.
 abbrev pub AddedAlways : Type 0
 AddedAlways = (s : Sheet) (m n : ℕ) (es : List Equation) (ws : List ℕ) → ledgerOf s ≡ opened m n es → RightAdding s m n es ws
+
+-- The bytes of an accepted class with these claims, on a sheet whose ledger has m, n and es; they held `old`.
+pub record RightMarks (s : Sheet) (m n : ℕ) (es : List Equation) (claims : List (List ℕ)) (old new : List ℕ) : Type 0 where
+  -- "The bytes are those that marking each claim singly would give, in that order"
+  pub singly : (i : ℕ) → i < length claims → getD new i 0 ≡ markByte (markedOf (ledgerOf s) (getD claims i []))
+  -- so 1 is for a well-formed claim exactly where "the vectors it describes are the vectors that solve all those equations", and 0 otherwise
+  pub passed : (i : ℕ) → i < length claims → WellFormed m n (getD claims i [])
+      → (getD new i 0 ≡ 1) ↔ DescribesSolutions m n es (claimFrom n (wordsIn (getD claims i [])))
+  pub failed : (i : ℕ) → i < length claims → WellFormed m n (getD claims i [])
+      → (getD new i 0 ≡ 0) ↔ (DescribesSolutions m n es (claimFrom n (wordsIn (getD claims i []))) → ⊥)
+  -- "bytes past the last claim keep their content"
+  pub size : length new ≡ length old
+  pub kept : (i : ℕ) → length claims ≤ i → getD new i 0 ≡ getD old i 0
+
+-- What document 02 says of a class, S-4, on such a sheet.
+pub record RightClass (s : Sheet) (m n : ℕ) (es : List Equation) (ws old : List ℕ) : Type 0 where
+  -- "up to 64 claims .. and a byte per claim": so many are marked exactly where there are no more, and bytes enough
+  pub allowed : (classedOf (ledgerOf s) ws old ≡ Claims (length (claimsIn n ws)))
+      ↔ ((length (claimsIn n ws) ≤ mostClaims) × (length (claimsIn n ws) ≤ length old))
+  pub accepted : classedOf (ledgerOf s) ws old ≡ Claims (length (claimsIn n ws))
+      → RightMarks s m n es (claimsIn n ws) old (marksAfter (ledgerOf s) ws old)
+
+-- Whatever the memory holds, and so after every list of calls.
+abbrev pub ClassAlways : Type 0
+ClassAlways = (s : Sheet) (m n : ℕ) (es : List Equation) (ws old : List ℕ) → ledgerOf s ≡ opened m n es → RightClass s m n es ws old
 
 -- "texts outside this grammar or over 256 bytes"
 abbrev pub NoEquation : List ℕ → Type 0

@@ -1,6 +1,8 @@
 -- What is written to the front of a lent list.
 --   over-fits    what is written fits
 --   over-front   it is what the front holds
+--   over-past    past it the list holds what it held,
+--   over-long    and it is as long as it was
 --   over-whole   what is as long as the list is all that it holds
 --   over-one     one element more behind it
 --   over-then    two lists, the second into the part behind the first
@@ -9,11 +11,11 @@
 --   head-then    a head stored, and a list into the part behind it
 use mathlib.Core.Path.{_≡_, refl, sym, ap, ap₂, _∙_}
 use mathlib.Core.List.{List, [], _∷_, _++_, append-assoc, append-nil}
-use Prim.Native.Nat.{ℕ, zero, suc, _<_, _≤_}
+use Prim.Native.Nat.{ℕ, zero, suc, _+_, _-_, _<_, _≤_}
 use native.Mathlib.Numerals.{add-one}
 use native.Mathlib.Omega.{arith}
-use lib.ListN.{length, take, drop, getD, set, length-append, take-append-drop, drop-of-length-le}
-use lib.Seq.{drop-cons, set-at, append-snoc, take-at, drop-at, drop-drop}
+use lib.ListN.{length, take, drop, getD, set, length-append, length-drop, take-append-drop, drop-of-length-le}
+use lib.Seq.{drop-cons, set-at, append-snoc, take-at, drop-at, drop-drop, getD-drop, getD-append-add}
 use Rattle.slices.specs.Over.{over}
 use Rattle.slices.proofs.Parts.{lent, putBack, lent-behind, put-behind}
 
@@ -23,6 +25,17 @@ module _ {A : Type 0} where
 
   pub over-front : (n : ℕ) (xs old : List A) {new : List A} → new ≡ over xs old → length xs ≡ n → take n new ≡ xs
   over-front n xs old is h = ap (take n) is ∙ take-at xs (drop (length xs) old) n h
+
+  pub over-past : (xs old : List A) (i : ℕ) (z : A) → length xs ≤ i → getD (over xs old) i z ≡ getD old i z
+  over-past xs old i z past =
+      let there : i ≡ length xs + (i - length xs) = omega arith in
+      ap (λ (k : ℕ). getD (over xs old) k z) there
+      ∙ getD-append-add xs (drop (length xs) old) (i - length xs) z
+      ∙ getD-drop (length xs) old (i - length xs) z
+      ∙ ap (λ (k : ℕ). getD old k z) (sym there)
+
+  pub over-long : (xs old : List A) → length xs ≤ length old → length (over xs old) ≡ length old
+  over-long xs old fits = omega (arith, length-append xs (drop (length xs) old), length-drop (length xs) old)
 
   pub over-whole : (xs old : List A) → length xs ≡ length old → over xs old ≡ xs
   over-whole xs old h = ap (λ (z : List A). xs ++ z) (drop-of-length-le old {i = length xs} (omega arith)) ∙ append-nil xs

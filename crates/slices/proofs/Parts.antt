@@ -5,10 +5,11 @@
 --   lent-behind, put-behind   the same where a front r of l elements was put in front of d
 --   joined-fit                such a front lies in the whole
 --   relent-length             and is as long when it is lent again
+--   take-taken, drop-taken    no more can be taken off the front, or dropped, than there is
 --   parts-suc                 how many parts of c elements a list has, the first one taken off
-use mathlib.Core.Path.{_≡_, sym, ap, _∙_}
-use mathlib.Core.List.{List, [], _++_, append-nil}
-use Prim.Native.Nat.{ℕ, suc, _-_, _/_, _<_, _≤_}
+use mathlib.Core.Path.{_≡_, refl, sym, ap, _∙_}
+use mathlib.Core.List.{List, [], _∷_, _++_, append-nil}
+use Prim.Native.Nat.{ℕ, zero, suc, _-_, _/_, _<_, _≤_}
 use native.Mathlib.Nat.{div-eq-sub-div}
 use native.Mathlib.Numerals.{add-one}
 use native.Mathlib.Omega.{arith}
@@ -52,6 +53,16 @@ module _ {A : Type 0} where
   relent-length l b r h = length-take-le l (r ++ drop l b) (joined-fit l b r h)
 
   -- ---- one part after the other
+
+  pub take-taken : (c : ℕ) (s : List A) → take (length (take c s)) s ≡ take c s
+  take-taken zero s = refl
+  take-taken (suc c) [] = refl
+  take-taken (suc c) (x ∷ s) = ap (λ (z : List A). x ∷ z) (take-taken c s)
+
+  pub drop-taken : (c : ℕ) (s : List A) → drop (length (take c s)) s ≡ drop c s
+  drop-taken zero s = refl
+  drop-taken (suc c) [] = refl
+  drop-taken (suc c) (x ∷ s) = drop-taken c s
 
   pub parts-suc : (c : ℕ) (s : List A) → 0 < c → c ≤ length s → length s / c ≡ suc (length (drop c s) / c)
   parts-suc c s h g = div-eq-sub-div h g ∙ add-one _ ∙ ap (λ (k : ℕ). suc (k / c)) (sym (length-drop c s))

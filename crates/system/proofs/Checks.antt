@@ -8,14 +8,17 @@ use mathlib.Core.Path.{_≡_, refl, sym, ap, ap₂, _∙_}
 use mathlib.Core.List.{List, [], _∷_}
 use mathlib.Core.Bool.{Bool, true, false, cond, _&&_}
 use Prim.Native.Nat.{ℕ, _+_, _%_, _<_, _≤_}
+use native.Mathlib.Nat.{mod-eq-of-lt}
 use lib.ListN.{length, take, drop, getD}
 use lib.Dec.{eqb}
 use borrow.Author.Tests.{eq-eqb, ne-eqb}
 use Rattle.slices.proofs.Parts.{lent, lent-is}
 use Rattle.equations.specs.Lists.{every}
+use Rattle.equations.specs.Vectors.{Below}
 use Rattle.equations.specs.Equation.{Equation, dot, solves, homogeneous}
 use Rattle.equations.specs.Lines.{equationAt, equationsOf}
 use Rattle.system.specs.Claims.{vectorsOf}
+use Rattle.equations.proofs.Vectors.{below-at}
 use Rattle.equations.proofs.Lines.{equations-none, equations-more}
 use Rattle.system.proofs.Chunks.{vectors-cons, vectors-none}
 
@@ -31,6 +34,10 @@ solves-cons m false e es v = refl
 solves-nil : (m : ℕ) (zeroed : Bool) (v : List ℕ) → solves m (cond zeroed [] []) v ≡ true
 solves-nil m true v = refl
 solves-nil m false v = refl
+
+right-below : (zeroed : Bool) {m x : ℕ} → 0 < m → x < m → cond zeroed 0 x < m
+right-below true pos h = pos
+right-below false pos h = h
 
 module _ (m n : ℕ) (zeroed : Bool) (s v : List ℕ) where
   -- the lines behind the first, as they are lent
@@ -50,18 +57,20 @@ module _ (m n : ℕ) (zeroed : Bool) (s v : List ℕ) where
       sym (g ∙ ap (λ (es : List Equation). solves m (cond zeroed (homogeneous es) es) v) (equations-none n s h)
       ∙ solves-nil m zeroed v)
 
-  -- the code's sum and right side for the first line of s
-  module _ (goal : Bool) (sum right : ℕ) (h : n < length s) (g : goal ≡ Solves m n zeroed s v)
+  -- the code's sum and right side for the first line of s, which are residues
+  module _ (goal : Bool) (sum right : ℕ) (pos : 0 < m) (below : Below m s) (h : n < length s) (g : goal ≡ Solves m n zeroed s v)
       (e : sum ≡ dot (take n s) v % m) (f : right ≡ cond zeroed 0 (getD s n 0)) where
-    test : (b : Bool) → eqb sum (right % m) ≡ b → goal ≡ b && Rest
-    test b t =
-        g ∙ solves-turn h ∙ ap (λ (z : Bool). z && Rest) (sym (ap₂ (λ (x y : ℕ). eqb x (y % m)) e f) ∙ t)
+    reduced : right ≡ cond zeroed 0 (getD s n 0) % m
+    reduced = f ∙ sym (mod-eq-of-lt (right-below zeroed pos (below-at m n s below h)))
 
-    pub solves-stop : (sum ≡ right % m → ⊥) → false ≡ goal
-    solves-stop t = sym (test false (ne-eqb sum (right % m) t))
+    test : (b : Bool) → eqb sum right ≡ b → goal ≡ b && Rest
+    test b t = g ∙ solves-turn h ∙ ap (λ (z : Bool). z && Rest) (sym (ap₂ eqb e reduced) ∙ t)
 
-    pub solves-on : sum ≡ right % m → goal ≡ Rest
-    solves-on t = test true (eq-eqb sum (right % m) t)
+    pub solves-stop : (sum ≡ right → ⊥) → false ≡ goal
+    solves-stop t = sym (test false (ne-eqb sum right t))
+
+    pub solves-on : sum ≡ right → goal ≡ Rest
+    solves-on t = test true (eq-eqb sum right t)
 
 pub right-is : (zeroed b : Bool) (right x : ℕ) → zeroed ≡ b → right ≡ cond b 0 x → right ≡ cond zeroed 0 x
 right-is zeroed b right x t e = e ∙ sym (ap (λ (z : Bool). cond z 0 x) t)

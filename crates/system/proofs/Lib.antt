@@ -12,4 +12,5 @@ pub mod Checks
 pub mod Pivots
 pub mod Fronts
 pub mod Marks
+pub mod Prepared
 pub mod Claims

@@ -1,8 +1,9 @@
 -- The outcome of a marking, from the outcomes of its parts.
---   claim-front                a claim that is not empty has a first vector
---   marked-none                the empty claim
---   start-fails, steps-fail    a claim whose start or steps do not solve
---   marked-some                any other one
+--   claim-front                  a claim that is not empty has a first vector
+--   solves-none                  what a claim describes solves the equations: the empty one does,
+--   start-fails, start-solves    any other one by its start and its steps
+--   misses-none, misses-some     and it misses no solution
+--   not-solved, solved           both together are the mark
 use mathlib.Core.Path.{_≡_, refl, sym, ap, ap₂, _∙_}
 use mathlib.Core.Logic.{_⊎_, inl, inr, ⊎-elim}
 use mathlib.Core.Bool.{Bool, true, false, _&&_, not}
@@ -17,7 +18,7 @@ use borrow.Author.Tests.{eqb-true, eqb-false}
 use Rattle.slices.proofs.Parts.{lent, lent-is}
 use Rattle.equations.specs.Lists.{every}
 use Rattle.equations.specs.Equation.{Equation, solves, homogeneous}
-use Rattle.equations.specs.Claim.{noSolution, from, passes}
+use Rattle.equations.specs.Claim.{Claim, noSolution, from, passes}
 use Rattle.equations.proofs.Truth.{true-or-false}
 use Rattle.equations.proofs.Vectors.{vector-of, below-take}
 use Rattle.elimination.specs.Basis.{basis, pivot}
@@ -27,6 +28,7 @@ use Rattle.elimination.proofs.Marking.{marking, marking-none}
 use Rattle.equations.specs.Lines.{equationsOf}
 use Rattle.system.specs.Posed.{Posed}
 use Rattle.system.specs.Claims.{Claimed, claimOf, vectorsOf}
+use Rattle.system.specs.Model.Marking.{claimSolves, missesNone}
 use Rattle.equations.proofs.Lines.{equations-shaped}
 use Rattle.system.proofs.Chunks.{vectors-long}
 
@@ -57,13 +59,40 @@ unfolding claimOf
 claim-of-some n [] h = absurd (h refl)
 claim-of-some n (x ∷ s) h = ap (λ (r : List ℕ). from (take n (x ∷ s)) (vectorsOf n r)) (lent-is n (x ∷ s))
 
-module _ (m n : ℕ) (lines claim : List ℕ) (posed : Posed m n lines) where
+module _ (m n : ℕ) (claim : List ℕ) where
+  pub solves-none : (es : List Equation) → length claim ≡ 0 → true ≡ claimSolves m es (claimOf n claim)
+  solves-none es none = sym (ap (claimSolves m es) (claim-of-none n claim none))
+
+  -- a and b are the outcomes for the start and for the steps; b is asked where a holds
+  module _ (es : List Equation) (some : length claim ≡ 0 → ⊥) (a : Bool) (start : a ≡ solves m es (take n claim)) where
+    parts : (b : Bool) → b ≡ every (solves m (homogeneous es)) (vectorsOf n (lent n claim))
+        → a && b ≡ claimSolves m es (claimOf n claim)
+    parts b steps = ap₂ (λ (x y : Bool). x && y) start steps ∙ ap (claimSolves m es) (claim-of-some n claim some)
+
+    pub start-fails : a ≡ false → a ≡ claimSolves m es (claimOf n claim)
+    start-fails f = f ∙ ap (λ (x : Bool). x && every (solves m (homogeneous es)) (vectorsOf n (lent n claim))) (sym f) ∙ parts _ refl
+
+    pub start-solves : a ≡ true → (b : Bool) → b ≡ every (solves m (homogeneous es)) (vectorsOf n (lent n claim))
+        → b ≡ claimSolves m es (claimOf n claim)
+    start-solves t b steps = ap (λ (x : Bool). x && b) (sym t) ∙ parts b steps
+
+  module _ (B : List (List ℕ)) (r : Bool) where
+    pub misses-none : length claim ≡ 0 → r ≡ not (eqb (pivot n B) m) → r ≡ missesNone m n B (claimOf n claim)
+    misses-none none e = e ∙ sym (ap (missesNone m n B) (claim-of-none n claim none))
+
+    pub misses-some : (length claim ≡ 0 → ⊥) → r ≡ agree m n B (basis m n 0 (vectorsOf n (lent n claim)))
+        → r ≡ missesNone m n B (claimOf n claim)
+    misses-some some e = e ∙ ap (missesNone m n B) (claim-of-some n claim some)
+
+module _ (m n : ℕ) (lines claim : List ℕ) (posed : Posed m n lines) (claimed : Claimed m n claim) where
   abbrev es : List Equation
   es = equationsOf n lines
 
-  pub marked-none : length claim ≡ 0 → (r : Bool) → r ≡ not (eqb (pivot n (tableau m n 0 (equationsOf n lines))) m)
-      → r ≡ passes m n (equationsOf n lines) (claimOf n claim)
-  marked-none h r e = e ∙ by-test (true-or-false (eqb d m)) ∙ ap (passes m n es) (sym (claim-of-none n claim h))
+  abbrev both : Claim → Bool
+  both c = claimSolves m es c && missesNone m n (tableau m n 0 es) c
+
+  of-none : both noSolution ≡ passes m n es noSolution
+  of-none = by-test (true-or-false (eqb d m))
     where
       d : ℕ
       d = pivot n (tableau m n 0 es)
@@ -75,38 +104,30 @@ module _ (m n : ℕ) (lines claim : List ℕ) (posed : Posed m n lines) where
       by-test (inl t) = ap not t ∙ sym (right .0 (eqb-true d m t))
       by-test (inr t) = ap not t ∙ sym (right .1 (eqb-false d m t))
 
-  -- a and b are the code's outcomes for the start and for the steps
-  module _ (claimed : Claimed m n claim) (some : length claim ≡ 0 → ⊥) (a : Bool)
-      (start : a ≡ solves m (equationsOf n lines) (take n claim)) where
-    abbrev steps : List (List ℕ)
-    steps = vectorsOf n (lent n claim)
+  of-some : (length claim ≡ 0 → ⊥)
+      → both (from (take n claim) (vectorsOf n (lent n claim))) ≡ passes m n es (from (take n claim) (vectorsOf n (lent n claim)))
+  unfolding claimRight
+  of-some some =
+      marking m n 0 es (take n claim) (vectorsOf n (lent n claim)) (omega (arith, posed .modulus)) (equations-shaped n lines)
+      (vector-of m n (take n claim) (length-take-le n claim (claim-front m n claim claimed some))
+      (below-take m n claim (claimed .residues))) (vectors-long n (lent n claim))
 
-    abbrev complete : Bool
-    complete = agree m n (tableau m n 0 es) (basis m n 0 steps)
+  decided : (length claim ≡ 0) ⊎ (length claim ≡ 0 → ⊥) → both (claimOf n claim) ≡ passes m n es (claimOf n claim)
+  decided (inl none) = rw (claim-of-none n claim none) of-none
+  decided (inr some) = rw (← claim-of-some n claim some) (of-some some)
 
-    right : claimRight m n 0 es (take n claim) steps ≡ passes m n es (claimOf n claim)
-    right =
-        marking m n 0 es (take n claim) steps (omega (arith, posed .modulus)) (equations-shaped n lines)
-        (vector-of m n (take n claim) (length-take-le n claim (claim-front m n claim claimed some))
-        (below-take m n claim (claimed .residues))) (vectors-long n (lent n claim))
-        ∙ ap (passes m n es) (claim-of-some n claim some)
+  marked : claimSolves m (equationsOf n lines) (claimOf n claim)
+      && missesNone m n (tableau m n 0 (equationsOf n lines)) (claimOf n claim)
+      ≡ passes m n (equationsOf n lines) (claimOf n claim)
+  marked = ⊎-elim (λ none. decided (inl none)) (λ some. decided (inr (λ none. omega arith))) (eq-zero-or-pos (length claim))
 
-    parts : (b : Bool) → b ≡ every (solves m (homogeneous es)) steps
-        → passes m n es (claimOf n claim) ≡ (a && b) && complete
-    unfolding claimRight
-    parts b e = sym right ∙ sym (ap₂ (λ (x y : Bool). (x && y) && complete) start e)
+  -- the mark by the outcomes of the two parts, a and b; b is asked where a holds
+  module _ (a : Bool) (first : a ≡ claimSolves m (equationsOf n lines) (claimOf n claim)) where
+    pub not-solved : a ≡ false → false ≡ passes m n (equationsOf n lines) (claimOf n claim)
+    not-solved f = ap (λ (x : Bool). x && missesNone m n (tableau m n 0 es) (claimOf n claim)) (sym f ∙ first) ∙ marked
 
-    pub start-fails : a ≡ false → false ≡ passes m n (equationsOf n lines) (claimOf n claim)
-    start-fails f =
-        sym (parts (every (solves m (homogeneous es)) steps) refl
-        ∙ ap (λ (x : Bool). (x && every (solves m (homogeneous es)) steps) && complete) f)
-
-    module _ (passed : a ≡ true) (b : Bool)
-        (kernel : b ≡ every (solves m (homogeneous (equationsOf n lines))) (vectorsOf n (lent n claim))) where
-      pub steps-fail : b ≡ false → false ≡ passes m n (equationsOf n lines) (claimOf n claim)
-      steps-fail f = sym (parts b kernel ∙ ap₂ (λ (x y : Bool). (x && y) && complete) passed f)
-
-      pub marked-some : b ≡ true → (r : Bool)
-          → r ≡ agree m n (tableau m n 0 (equationsOf n lines)) (basis m n 0 (vectorsOf n (lent n claim)))
-          → r ≡ passes m n (equationsOf n lines) (claimOf n claim)
-      marked-some f r e = e ∙ sym (parts b kernel ∙ ap₂ (λ (x y : Bool). (x && y) && complete) passed f)
+    pub solved : a ≡ true → (B : List (List ℕ)) → B ≡ tableau m n 0 (equationsOf n lines) → (b : Bool)
+        → b ≡ missesNone m n B (claimOf n claim) → b ≡ passes m n (equationsOf n lines) (claimOf n claim)
+    solved t B same b second =
+        second ∙ ap (λ (X : List (List ℕ)). missesNone m n X (claimOf n claim)) same
+        ∙ ap (λ (x : Bool). x && missesNone m n (tableau m n 0 es) (claimOf n claim)) (sym t ∙ first) ∙ marked

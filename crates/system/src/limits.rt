@@ -12,5 +12,8 @@ pub const VECTORS: usize = UNKNOWNS + 1;
 // The numbers behind the head of a claim or a block: 272.
 pub const ENTRIES: usize = VECTORS * UNKNOWNS;
 
+// The numbers of a basis, at most: packed rows of 17, 16, .., 1 numbers are 153.
+pub const BASIS: usize = LINE * (LINE + 1) / 2;
+
 // The words of a claim or a block: 273.
 pub const BLOCK: usize = ENTRIES + 1;

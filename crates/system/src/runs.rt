@@ -9,6 +9,7 @@ ghost use Rattle.equations.specs.Lines.{equationsOf};
 ghost use Rattle.tableau.specs.Packed.{triangle};
 ghost use Rattle.system.specs.Posed.{Posed};
 ghost use Rattle.system.specs.Model.Reading.{Laid, answerVectors};
+use crate::limits::BASIS;
 use crate::reading::packed_size;
 use crate::reading::pivot_at;
 use crate::reading::vectors_into;
@@ -26,7 +27,7 @@ pub(crate) fn solution(m: u32, n: usize, lines: &[u32], numbers: &mut [u32]) -> 
         let mut small = [0u32; 15];
         return solution_into(&mut small[..size], numbers, m, n, lines);
     }
-    let mut basis = [0u32; 153];
+    let mut basis = [0u32; BASIS];
     solution_into(&mut basis[..size], numbers, m, n, lines)
 }
 

@@ -1,55 +1,40 @@
 // What two bases say of a claim: one of the equations, one of the claimed steps.
 ghost use mathlib.Core.Path.{_≡_};
-ghost use mathlib.Core.Bool.{not};
 ghost use Prim.Native.Nat.{_+_, _*_, _<_, _≤_};
 ghost use lib.ListN.{length, replicate};
 ghost use lib.Dec.{eqb};
 ghost use Rattle.equations.specs.Vectors.{Below};
-ghost use Rattle.elimination.specs.Basis.{pivot};
 ghost use Rattle.elimination.specs.Basis.{basis as basisOf};
-ghost use Rattle.elimination.specs.Tableau.{tableau};
 ghost use Rattle.elimination.specs.Marking.{agree};
 ghost use Rattle.tableau.specs.Packed.{rows, triangle};
-ghost use Rattle.equations.specs.Lines.{equationsOf};
-ghost use Rattle.system.specs.Posed.{Posed};
-ghost use Rattle.system.specs.Claims.{vectorsOf};
+ghost use Rattle.system.specs.Claims.{vectorsOf, claimOf, Claimed};
+ghost use Rattle.system.specs.Model.Marking.{missesNone};
+use crate::limits::BASIS;
 use crate::reading::packed_size;
 use crate::reading::pivot_at;
 use residue::modular::product;
 use residue::modular::wide;
-use tableau::building::build;
 use tableau::building::fill;
 
-// Whether nothing solves the lines: the constant's own pivot is not m then.
-pub(crate) fn unsolvable(m: u32, n: usize, lines: &[u32]) -> bool
-    requires { ⌜ Posed m n (now lines) ⌝ }
-    ensures { λ r. ⌜ r ≡ not (eqb (pivot n (tableau m n 0 (equationsOf n (now (lines .entry))))) m) ⌝ }
+// Whether no solution of the lines with this basis is missing in the claim. One that claims no solution misses none where nothing solves
+// the lines: the constant's own pivot is not m then.
+pub(crate) fn misses_none(m: u32, n: usize, equations: &[u32], claim: &[u32]) -> bool
+    requires { ⌜ (0 < m) × (0 < n) × (n ≤ 16) × (length (now equations) ≡ triangle (n + 1) (n + 1)) × Claimed m n (now claim) ⌝ }
+    ensures { λ r. ⌜ r ≡ missesNone m n (rows (n + 1) (n + 1) (now (equations .entry))) (claimOf n (now (claim .entry))) ⌝ }
 {
-    let mut rows = [0u32; 153];
-    let size = packed_size(n + 1, n + 1);
-    build(&mut rows[..size], lines, m, n, 0);
-    pivot_at(&rows[..size], n, n + 1) != m
+    if claim.len() == 0 {
+        return pivot_at(equations, n, n + 1) != m;
+    }
+    reaches(m, n, equations, &claim[n..])
 }
 
 // Whether no step is missing.
-pub(crate) fn reaches_all(m: u32, n: usize, lines: &[u32], steps: &[u32]) -> bool
-    requires { ⌜ Posed m n (now lines) × Below m (now steps) ⌝ }
-    ensures { λ r. ⌜ r ≡ agree m n (tableau m n 0 (equationsOf n (now (lines .entry))))
-        (basisOf m n 0 (vectorsOf n (now (steps .entry)))) ⌝ }
-{
-    let mut rows = [0u32; 153];
-    let size = packed_size(n + 1, n + 1);
-    build(&mut rows[..size], lines, m, n, 0);
-    reaches(m, n, &rows[..size], steps)
-}
-
-// The same for a basis of the lines.
 fn reaches(m: u32, n: usize, equations: &[u32], steps: &[u32]) -> bool
     requires { ⌜ (0 < m) × (0 < n) × (n ≤ 16) × (length (now equations) ≡ triangle (n + 1) (n + 1)) × Below m (now steps) ⌝ }
     ensures { λ r. ⌜ r ≡ agree m n (rows (n + 1) (n + 1) (now (equations .entry)))
         (basisOf m n 0 (vectorsOf n (now (steps .entry)))) ⌝ }
 {
-    let mut rows = [0u32; 153];
+    let mut rows = [0u32; BASIS];
     let size = packed_size(n, n);
     span(&mut rows[..size], steps, m, n);
     agree(m, n, equations, &rows[..size])

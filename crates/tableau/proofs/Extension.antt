@@ -156,7 +156,7 @@ module _ (m j k : ℕ) (b X x : List ℕ) (at i : ℕ) (E : Extended m j (length
 
   pub extended-asks : length X ≤ 65536 → Kept m (rows j l b)
       → (0 < m) × (length (take (end - o) (drop o b)) ≡ length (lent (p + 1) x) + 1) × (length (lent (p + 1) x) ≤ 65536)
-      × RowKept m (take (end - o) (drop o b))
+      × RowKept m (take (end - o) (drop o b)) × Below m (lent (p + 1) x)
   extended-asks few kept =
       let r : RowKept m (take (end - o) (drop o b)) = subst (λ (n : ℕ). RowKept m (take n (drop o b))) (sym size-is)
       (row-kept m j l b X x at p o before inside wide room refl kept) in
@@ -165,6 +165,7 @@ module _ (m j k : ℕ) (b X x : List ℕ) (at i : ℕ) (E : Extended m j (length
         omega (arith, row-length, rest-length, met),
         omega (arith, rest-length),
         r,
+        subst (Below m) (sym (lent-is (p + 1) x ∙ ap (λ (n : ℕ). drop n x) (add-one p))) (before .below),
       )
 
   pub extended-next : (v : ℕ) → v ≡ fit m (take (end - o) (drop o b)) (lent (p + 1) x) → v < m

@@ -1,4 +1,6 @@
--- A sum of products whose low and high halves, of 32 bits each, are summed apart.
+-- Sums of products: of small ones as they are, of others by their low and high halves, of 32 bits each, which are summed apart.
+--   Summed, summed-start, -next, -end   the sum of small products: of none, of one more, of all
+--   small-product                       a product of residues of a small modulus
 --   Halves, halves-start, -next, -end   the two sums: of no product, of one more, of all
 --   high-fits                           the sum of the high halves fits 64 bits
 --   join-is                             the remainder of the high sum, with what the low one carries, will do
@@ -6,7 +8,7 @@
 use mathlib.Core.Path.{_≡_, refl, sym, ap, ap₂, _∙_}
 use mathlib.Core.List.{List, [], _∷_}
 use Prim.Native.Nat.{ℕ, zero, suc, _+_, _*_, _/_, _%_, _≤_, _<_}
-use native.Mathlib.Nat.{suc-inj, div-add-mod'}
+use native.Mathlib.Nat.{suc-inj, mul-le-mul, div-add-mod'}
 use native.Mathlib.Numerals.{add-one}
 use native.Mathlib.Omega.{arith}
 use lib.ListN.{length, take, getD}
@@ -21,6 +23,28 @@ dot-grow i [] b h l = absurd (omega arith)
 dot-grow i (x ∷ a) [] h l = absurd (omega arith)
 dot-grow zero (x ∷ a) (y ∷ b) h l = omega arith
 dot-grow (suc i) (x ∷ a) (y ∷ b) h l = omega (arith, dot-grow i a b (suc-inj h) (omega arith))
+
+-- the sum is n. It stays shut, as `Halves` does below.
+unfoldable pub Summed : ℕ → ℕ → Type 0
+Summed all n = all ≡ n
+
+pub summed-start : (a b : List ℕ) → Summed 0 (dot (take 0 a) (take 0 b))
+unfolding Summed
+summed-start a b = refl
+
+module _ (i all : ℕ) (a b : List ℕ) (h : length a ≡ length b) (so-far : Summed all (dot (take i a) (take i b))) where
+  pub summed-next : (x : ℕ) → i < length a → x ≡ getD a i 0 * getD b i 0 → Summed (all + x) (dot (take (i + 1) a) (take (i + 1) b))
+  unfolding Summed
+  summed-next x l e =
+      ap₂ _+_ so-far e ∙ sym (dot-grow i a b h l) ∙ ap (λ (k : ℕ). dot (take k a) (take k b)) (sym (add-one i))
+
+  pub summed-end : i ≡ length a → all ≡ dot a b
+  unfolding Summed
+  summed-end e =
+      so-far ∙ ap₂ dot (ap (λ (k : ℕ). take k a) e ∙ take-length a) (ap (λ (k : ℕ). take k b) (e ∙ h) ∙ take-length b)
+
+pub small-product : (m x y : ℕ) → m ≤ 16777216 → x < m → y < m → x * y ≤ 281474943156225
+small-product m x y small h g = mul-le-mul {n₁ = x} {m₁ = y} {n₂ = 16777215} {m₂ = 16777215} (omega arith) (omega arith)
 
 -- the two sums make n. It stays shut, so that omega does not meet it where only the sums' sizes matter.
 unfoldable pub Halves : ℕ → ℕ → ℕ → Type 0

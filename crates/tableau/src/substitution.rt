@@ -23,7 +23,8 @@ fn least(rest: u32, m: u32, d: u32) -> u32
 // The entry of a row's own column, from the entries y of the columns behind it. A row whose pivot is m holds nothing, and
 // needs no sum.
 fn entry(row: &[u32], y: &[u32], m: u32) -> u32
-    requires { ⌜ (0 < m) × (length (now row) ≡ length (now y) + 1) × (length (now y) ≤ 65536) × RowKept m (now row) ⌝ }
+    requires { ⌜ (0 < m) × (length (now row) ≡ length (now y) + 1) × (length (now y) ≤ 65536) × RowKept m (now row)
+        × Below m (now y) ⌝ }
     ensures { λ r. ⌜ (r ≡ fit m (now (row .entry)) (now (y .entry))) × (r < m) ⌝ }
 {
     let d = row[0];

@@ -9,4 +9,5 @@ pub mod Picked
 pub mod Runs
 pub mod Written
 pub mod Joined
+pub mod Classes
 pub mod Promises

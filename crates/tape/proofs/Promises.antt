@@ -1,5 +1,5 @@
--- The promises of specs/Promises.antt, kept: an answer's block, cut into vectors again, is the start and the steps, and the line of a
--- mark tells whether the claim passes.
+-- The promises of specs/Promises.antt, kept: an answer's block, cut into vectors again, is the start and the steps, the line of a mark
+-- tells whether the claim passes, and the words of a class are marks.
 use mathlib.Core.Path.{_≡_, refl, sym, ap, ap₂, _∙_}
 use mathlib.Core.List.{List, [], _∷_, _++_, append-assoc, flatten}
 use mathlib.Core.Option.{some}
@@ -35,8 +35,9 @@ use Rattle.sheet.proofs.Marks.{well-accepted, mark-tells}
 use Rattle.sheet.proofs.Promises.{right-always}
 use Rattle.tape.specs.Text.{line, lineOf}
 use Rattle.tape.specs.Output.{blockLines, stepLines, markLine, answerLines, callLines, linesFrom}
-use Rattle.tape.specs.Promises.{CallPrinted, AnswerPrinted, AnswersPrinted, MarkPrinted, MarksPrinted}
+use Rattle.tape.specs.Promises.{CallPrinted, AnswerPrinted, AnswersPrinted, MarkPrinted, MarksPrinted, ClassOnTape}
 use Rattle.tape.proofs.Told.{accepted-told}
+use Rattle.tape.proofs.Classes.{class-marks}
 
 -- ---- a call behind others
 
@@ -107,3 +108,6 @@ answers-printed calls m n es = answer-printed m n es calls
 
 pub marks-printed : MarksPrinted
 marks-printed calls m n es = mark-printed m n es calls
+
+pub class-on-tape : ClassOnTape
+class-on-tape = class-marks

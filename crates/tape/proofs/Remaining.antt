@@ -7,10 +7,11 @@
 --   used-some, -fits    a word at least, and no more than there is
 use mathlib.Core.Path.{_≡_, refl, sym, ap, _∙_}
 use mathlib.Core.List.{List, [], _∷_, _++_, append-assoc}
-use Prim.Native.Nat.{ℕ, zero, suc, _*_, _/_, _%_, _≤_, _<_, min}
+use Prim.Native.Nat.{ℕ, _*_, _/_, _%_, _≤_, _<_, min}
 use native.Mathlib.Omega.{arith}
 use borrow.Author.Tests.{le-leb}
-use lib.ListN.{length, take, drop, getD, length-take, length-drop}
+use lib.ListN.{length, drop, getD, length-take, length-drop}
+use Rattle.slices.proofs.Parts.{drop-taken}
 use Rattle.ledger.specs.Ledger.{Ledger}
 use Rattle.ledger.specs.Calls.{Call}
 use Rattle.ledger.specs.History.{enter}
@@ -33,12 +34,6 @@ unfolding lines
 lines-remaining tape fits = rw (le-leb (length tape) mostBytes fits, fresh-unopened)
 
 -- ---- one step
-
--- no more can be dropped than can be taken
-drop-taken : (c : ℕ) (ws : List ℕ) → drop (length (take c ws)) ws ≡ drop c ws
-drop-taken zero ws = refl
-drop-taken (suc c) [] = refl
-drop-taken (suc c) (w ∷ ws) = drop-taken c ws
 
 abbrev pub usedBy : Ledger → List ℕ → ℕ
 usedBy l rest = 4 * length (takenFrom l (wordsOn rest))

@@ -2,22 +2,27 @@
 -- keeps it. Definitions only.
 use mathlib.Core.Path.{_≡_}
 use mathlib.Core.Logic.{_↔_}
-use mathlib.Core.List.{List, [], _∷_, _++_}
+use mathlib.Core.Bool.{Bool}
+use mathlib.Core.List.{List, [], _∷_, _++_, map}
 use mathlib.Core.Option.{some}
 use Prim.Native.Nat.{ℕ}
-use lib.Dec.{T}
+use lib.Dec.{T, eqb}
+use lib.ListN.{getD}
+use Rattle.equations.specs.Lists.{every}
 use Rattle.equations.specs.Equation.{Equation}
 use Rattle.equations.specs.Answer.{startOf, stepsOf}
 use Rattle.equations.specs.Multipliers.{refutes}
 use Rattle.equations.specs.Claim.{Claim}
-use Rattle.ledger.specs.Ledger.{unopened, opened}
+use Rattle.ledger.specs.Ledger.{Ledger, unopened, unknownsOf, opened}
 use Rattle.ledger.specs.Shapes.{claimFrom}
-use Rattle.words.specs.Words.{wordsIn}
+use Rattle.words.specs.Words.{wordOf, wordsIn, headKind}
+use Rattle.ledger.specs.Classes.{claimsIn}
 use Rattle.ledger.specs.Calls.{Call, marks, answersFromTape, queries}
 use Rattle.ledger.specs.Questions.{plain}
 use Rattle.ledger.specs.History.{enter, ledger}
 use Rattle.sheet.specs.Promises.{NothingSolves, WellFormed, DescribesSolutions}
 use Rattle.tape.specs.Text.{line}
+use Rattle.tape.specs.Calls.{callsOn}
 use Rattle.tape.specs.Output.{stepLines, callLines, linesFrom}
 
 -- "Each call gives a line": for a call behind others, `callLines` of the ledger that those lead to is what a tape prints between
@@ -54,3 +59,14 @@ abbrev pub MarksPrinted : Type 0
 MarksPrinted =
     (calls : List Call) (m n : ℕ) (es : List Equation) → ledger calls ≡ opened m n es
     → (ws : List ℕ) → WellFormed m n ws → MarkPrinted m n es (claimFrom n (wordsIn ws)) (callLines (ledger calls) (queries (marks ws)))
+
+-- a head stands where it should
+abbrev pub hasHead : List ℕ → Bool
+hasHead claim = eqb (wordOf (getD claim 0 0) .kind) headKind
+
+-- "Each claim's length is taken as on the tape", S-4: the words of a class whose claims all begin with a head are, on tape, the marks of
+-- just these claims.
+abbrev pub ClassOnTape : Type 0
+ClassOnTape =
+    (l : Ledger) (ws : List ℕ) → T (every hasHead (claimsIn (unknownsOf l) ws))
+    → callsOn l ws ≡ map (λ (claim : List ℕ). queries (marks claim)) (claimsIn (unknownsOf l) ws)

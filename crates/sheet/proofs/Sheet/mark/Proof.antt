@@ -1,145 +1,20 @@
--- `Sheet::mark` meets its contract: the entries of an accepted claim are seen in the numbers, and they are marked.
-use mathlib.Core.Path.{sym, ap, _∙_}
-use mathlib.Core.Bool.{cond}
-use native.Mathlib.Omega.{arith}
+-- `Sheet::mark` meets its contract: for one claim nothing is there yet of what the equations alone decide.
 use borrow.Author.Needs.{needs}
-use denote.Ref.{now}
-use lib.ListN.{replicate}
-use Rattle.equations.specs.declared.Mark.the-variants.{Pass, Fail}
-use Rattle.asking.specs.Sees.{claimRoom}
-use Rattle.sheet.specs.declared.marking.Marked.the-variants.{Gets}
-use Rattle.sheet.specs.Record.{ledgerOf}
-use Rattle.sheet.proofs.Few.{unknowns-few}
-use Rattle.sheet.proofs.MarkGiven.{marked-refused, mark-opened, mark-end, mark-claimed, marked-as}
+use Rattle.system.specs.Ready.{zeros-ready}
 use Rattle.sheet.proofs.Sheet.mark.Statement.{statement}
 use Rattle.sheet.proofs.Sheet.mark.Tie as tie
 
 view-requires : tie.Need-view-requires
 view-requires c κs = search needs
 
-slice-aggregate-mark-refusal : tie.Need-slice-aggregate-mark-refusal
-slice-aggregate-mark-refusal c = search needs
+slice-aggregate-mark-claim : tie.Need-slice-aggregate-mark-claim
+slice-aggregate-mark-claim c = search needs
 
-mark-refusal-requires : tie.Need-mark-refusal-requires
-mark-refusal-requires c κs = search needs
+mark-claim-requires : tie.Need-mark-claim-requires
+mark-claim-requires c κs = (c .before .before .view .ensures .0, zeros-ready _ _ _)
 
 returns : tie.Need-returns
-returns c =
-    let a = c .before .before .before .before .before .before .before .args in
-    let l = ledgerOf (now (a .sheet)) in
-    let asked = c .before .before .mark-refusal in
-    marked-refused l (now (a .words)) (asked .result) (sym (asked .ensures .0 l (c .before .before .before .before .before .view .ensures .0 .sees))) (c .if1 .taken)
-
-array-read-wide : tie.Need-array-read-wide
-array-read-wide c = search needs
-
-wide-requires : tie.Need-wide-requires
-wide-requires c κs = search needs
-
-add-end : tie.Need-add-end
-add-end c =
-    let a = c .before .before .before .before .before .before .before .before .args in
-    let s = now (a .sheet) in
-    let ws = now (a .words) in
-    let view = c .before .before .before .before .before .before .view .ensures .0 in
-    let asked = c .before .before .before .mark-refusal .ensures in
-    let accepted = sym (asked .0 (ledgerOf s) (view .sees)) ∙ c .before .if1 .left in
-    let end = mark-end (ledgerOf s) ws accepted (unknowns-few s) (replicate claimRoom 0) (asked .1) (view .sees) (c .wide .result)
-    (c .wide .ensures) in
-    omega (arith, end)
-
-mul-end : tie.Need-mul-end
-mul-end c = omega (arith, add-end c)
-
-sub-mark : tie.Need-sub-mark
-sub-mark c = search needs
-
-part-mark-start : tie.Need-part-mark-start
-part-mark-start c = search needs
-
-part-mark-end : tie.Need-part-mark-end
-part-mark-end c =
-    let a = c .before .before .before .before .before .before .before .before .before .args in
-    let s = now (a .sheet) in
-    let ws = now (a .words) in
-    let view = c .before .before .before .before .before .before .before .view .ensures .0 in
-    let asked = c .before .before .before .before .mark-refusal .ensures in
-    let accepted = sym (asked .0 (ledgerOf s) (view .sees)) ∙ c .before .before .if1 .left in
-    view .fits (mark-opened (ledgerOf s) ws accepted)
-
-sub-mark-2 : tie.Need-sub-mark-2
-sub-mark-2 c = search needs
-
-part-mark-start-2 : tie.Need-part-mark-start-2
-part-mark-start-2 c = search needs
-
-part-mark-end-2 : tie.Need-part-mark-end-2
-part-mark-end-2 c =
-    let a = c .before .before .before .before .before .before .before .before .before .before .before .args in
-    let s = now (a .sheet) in
-    let ws = now (a .words) in
-    let view = c .before .before .before .before .before .before .before .before .before .view .ensures .0 in
-    let asked = c .before .before .before .before .before .before .mark-refusal .ensures in
-    let accepted = sym (asked .0 (ledgerOf s) (view .sees)) ∙ c .before .before .before .before .if1 .left in
-    let end = mark-end (ledgerOf s) ws accepted (unknowns-few s) (replicate claimRoom 0) (asked .1) (view .sees) (c .before .before .before .wide .result)
-    (c .before .before .before .wide .ensures) in
-    omega (arith, end)
-
-mark-requires : tie.Need-mark-requires
-mark-requires c κs =
-    let a = c .before .before .before .before .before .before .before .before .before .before .before .before .args in
-    let s = now (a .sheet) in
-    let ws = now (a .words) in
-    let view = c .before .before .before .before .before .before .before .before .before .before .view .ensures .0 in
-    let asked = c .before .before .before .before .before .before .before .mark-refusal .ensures in
-    let accepted = sym (asked .0 (ledgerOf s) (view .sees)) ∙ c .before .before .before .before .before .if1 .left in (
-      view .posed (mark-opened (ledgerOf s) ws accepted),
-      mark-claimed (ledgerOf s) ws accepted (unknowns-few s) (replicate claimRoom 0) (asked .1) (view .sees) (c .before .before .before .before .wide .result)
-          (c .before .before .before .before .wide .ensures),
-    )
-
-returns-2 : tie.Need-returns-2
-returns-2 c =
-    let a = c .before .before .before .before .before .before .before .before .before .before .before .before .before .before .args in
-    let s = now (a .sheet) in
-    let ws = now (a .words) in
-    let view = c .before .before .before .before .before .before .before .before .before .before .before .before .view .ensures .0 in
-    let asked = c .before .before .before .before .before .before .before .before .before .mark-refusal .ensures in
-    let accepted = sym (asked .0 (ledgerOf s) (view .sees)) ∙ c .before .before .before .before .before .before .before .if1 .left in
-    ap (λ b. Gets (cond b Pass Fail)) (sym (c .if2 .taken))
-    ∙ marked-as (ledgerOf s) ws accepted (unknowns-few s) (replicate claimRoom 0) (asked .1) (view .sees) (c .before .before .before .before .before .before .wide .result)
-    (c .before .before .before .before .before .before .wide .ensures) _ (view .equations (mark-opened (ledgerOf s) ws accepted)) (c .before .mark .result) (c .before .mark .ensures)
-
-returns-3 : tie.Need-returns-3
-returns-3 c =
-    let a = c .before .before .before .before .before .before .before .before .before .before .before .before .before .before .args in
-    let s = now (a .sheet) in
-    let ws = now (a .words) in
-    let view = c .before .before .before .before .before .before .before .before .before .before .before .before .view .ensures .0 in
-    let asked = c .before .before .before .before .before .before .before .before .before .mark-refusal .ensures in
-    let accepted = sym (asked .0 (ledgerOf s) (view .sees)) ∙ c .before .before .before .before .before .before .before .if1 .left in
-    ap (λ b. Gets (cond b Pass Fail)) (sym (c .if2 .left))
-    ∙ marked-as (ledgerOf s) ws accepted (unknowns-few s) (replicate claimRoom 0) (asked .1) (view .sees) (c .before .before .before .before .before .before .wide .result)
-    (c .before .before .before .before .before .before .wide .ensures) _ (view .equations (mark-opened (ledgerOf s) ws accepted)) (c .before .mark .result) (c .before .mark .ensures)
+returns c = search needs
 
 pub mark-spec : {M : Type 1} → statement M
-mark-spec =
-    tie.close
-    (tie.spec
-    view-requires
-    slice-aggregate-mark-refusal
-    mark-refusal-requires
-    returns
-    array-read-wide
-    wide-requires
-    mul-end
-    add-end
-    sub-mark
-    part-mark-start
-    part-mark-end
-    sub-mark-2
-    part-mark-start-2
-    part-mark-end-2
-    mark-requires
-    returns-2
-    returns-3)
+mark-spec = tie.close (tie.spec view-requires slice-aggregate-mark-claim mark-claim-requires returns)

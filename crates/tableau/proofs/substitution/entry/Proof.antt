@@ -5,7 +5,9 @@ use native.Mathlib.Nat.{mod-lt}
 use native.Mathlib.Omega.{arith}
 use lib.ListN.{getD}
 use borrow.Author.Needs.{needs}
-use Rattle.tableau.proofs.Column.{row-head}
+use Rattle.slices.proofs.Parts.{lent-is}
+use Rattle.equations.specs.Vectors.{Below}
+use Rattle.tableau.proofs.Column.{row-head, row-rest}
 use Rattle.tableau.proofs.Entry.{entry-is, entry-below, entry-none}
 use Rattle.tableau.proofs.substitution.entry.Statement.{statement}
 use Rattle.tableau.proofs.substitution.entry.Tie as tie
@@ -29,7 +31,10 @@ part-sum-end : tie.Need-part-sum-end
 part-sum-end c = search needs
 
 sum-requires : tie.Need-sum-requires
-sum-requires c κs = search needs
+sum-requires c κs =
+    let z = c .before .before .before .before .before in
+    let a = z .args in
+    (z .pre .0, search needs, search needs, subst (Below (a .m)) (sym (lent-is 1 (a .row .now))) (row-rest (a .m) (a .row .now) (z .pre .3)), z .pre .4)
 
 least-requires : tie.Need-least-requires
 least-requires c κs =
