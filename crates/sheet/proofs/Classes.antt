@@ -1,8 +1,9 @@
 -- A class: its bytes one after the other, and what is given back and left of the marks.
---   byte-fits                       the byte of a refused claim
---   BytesSo                         the bytes of the first i claims are written, and the claims behind them are those of the rest
---   bytes-none, bytes-more, bytes-all   before the first claim, a claim more, and after the last
+--   byte-fits                       the number of a refused claim is small
 --   map-at                          one byte of all
+--   BytesSo                         the bytes of the first i claims are written, and the claims behind them are those of the rest
+--   bytes-none, bytes-more, -all    before the first claim, a claim more, and after the last
+--   bytes-left                      there is a byte for the next claim
 --   classed-asked, marks-asked      what the call gives and leaves, by its questions
 --   class-refused                   a refused class
 --   class-accepted, claims-few      what is said to be marked was accepted, and is at most 64 claims
