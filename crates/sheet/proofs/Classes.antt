@@ -19,6 +19,7 @@ use native.Mathlib.Omega.{arith}
 use borrow.Author.Tests.{ne-eqb, eqb-true}
 use lib.Dec.{eqb, leb, leb→le}
 use lib.ListN.{length, take, drop, getD, set, length-drop, length-map}
+use lib.Seq.{drop-cons}
 use Rattle.slices.specs.Over.{over}
 use Rattle.slices.proofs.Parts.{lent}
 use Rattle.slices.proofs.Copied.{Copied, copied-none, copied-more, copied-all}
@@ -73,9 +74,7 @@ drop-first (suc i) [] {y} {ys} is = let z : 0 ≡ suc (length ys) = ap length is
 drop-first (suc i) (x ∷ xs) is = let rest = drop-first i xs is in (omega (arith, rest .0), rest .1, rest .2)
 
 pub map-at : {A : Type 0} (f : A → ℕ) (xs : List A) (i : ℕ) (z : A) → i < length xs → getD (map f xs) i 0 ≡ f (getD xs i z)
-map-at f [] i z at = absurd (omega arith)
-map-at f (x ∷ xs) zero z at = refl
-map-at f (x ∷ xs) (suc i) z at = map-at f xs i z (omega arith)
+map-at f xs i z at = drop-first i xs (drop-cons xs i z at) .2 f
 
 module _ (l : Ledger) (words old : List ℕ) where
   abbrev byte : List ℕ → ℕ

@@ -1,7 +1,7 @@
 -- Every call on a tape takes a word, `wanted-some`, so that fewer words remain behind it, `behind-fewer`.
+use mathlib.Core.List.{List, _∷_}
 use Prim.Native.Nat.{ℕ, _≤_, _<_}
 use native.Mathlib.Omega.{arith}
-use mathlib.Core.List.{List, _∷_}
 use lib.ListN.{length, length-drop}
 use Rattle.words.specs.Words.{wordOf}
 use Rattle.ledger.specs.Ledger.{Ledger, unknownsOf}
