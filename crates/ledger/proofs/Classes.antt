@@ -2,12 +2,20 @@
 --   claim-used      it takes a word at least, and no more than there are
 --   claims-taken    it, and the claims behind it
 --   claims-end      no words, no claims
-use mathlib.Core.Path.{_≡_, sym, ap, ap₂, _∙_}
+--   stray-first     a word that is no head of at most 17 is a claim of one word,
+--   stray-shape     and its shape is wrong
+use mathlib.Core.Path.{_≡_, refl, sym, ap, ap₂, _∙_}
+use mathlib.Core.Bool.{Bool, true, false, cond}
 use mathlib.Core.List.{List, [], _∷_}
-use Prim.Native.Nat.{ℕ, _<_, _≤_}
+use Prim.Native.Nat.{ℕ, _+_, _*_, _<_, _≤_}
 use native.Mathlib.Omega.{arith}
-use lib.ListN.{length, take, drop, getD, length-take}
+use lib.Dec.{T, eqb, leb, eqb→eq, leb→le}
+use lib.ListN.{length, take, drop, getD, replicate, length-take}
+use mir.Facts.{and-yes}
 use Rattle.slices.proofs.Parts.{lent, lent-is, take-taken, drop-taken}
+use Rattle.equations.proofs.Truth.{of-true}
+use Rattle.words.specs.Words.{wordOf, wordsIn, haveKinds, headKind, entryKind}
+use Rattle.ledger.specs.Shapes.{largestHead, isClaim}
 use Rattle.ledger.specs.Classes.{claimWords, firstClaim, claimsIn, claims-none, claim-takes, claims-first}
 
 module _ (n : ℕ) (ws : List ℕ) (some : 0 < length ws) {used : ℕ} (is : used ≡ length (firstClaim n ws)) where
@@ -26,3 +34,28 @@ module _ (n : ℕ) (ws : List ℕ) (some : 0 < length ws) {used : ℕ} (is : use
 pub claims-end : (n : ℕ) (ws : List ℕ) → length ws ≡ 0 → claimsIn n ws ≡ []
 claims-end n [] none = claims-none n
 claims-end n (w ∷ ws) none = absurd (omega arith)
+
+module _ (n w : ℕ) (stray : (wordOf w .kind ≡ headKind) × (wordOf w .number ≤ largestHead) → ⊥) where
+  abbrev head : ℕ
+  head = wordOf w .number
+
+  one-word : claimWords n w ≡ 1
+  one-word = go (eqb (wordOf w .kind) headKind) (leb head largestHead) refl refl
+    where
+      go : (a b : Bool) → eqb (wordOf w .kind) headKind ≡ a → leb head largestHead ≡ b → cond a (cond b (1 + n * head) 1) 1 ≡ 1
+      go false b is few = refl
+      go true false is few = refl
+      go true true is few = absurd (stray (eqb→eq (wordOf w .kind) headKind (of-true is), leb→le head largestHead (of-true few)))
+
+  pub stray-first : (ws : List ℕ) → claimsIn n (w ∷ ws) ≡ (w ∷ []) ∷ claimsIn n ws
+  stray-first ws =
+      claims-first n (w ∷ ws) (omega arith) ∙ ap (λ (j : ℕ). take j (w ∷ ws) ∷ claimsIn n (drop j (w ∷ ws))) one-word
+
+  pub stray-shape : T (isClaim n (wordsIn (w ∷ []))) → ⊥
+  unfolding wordsIn
+  stray-shape shape =
+      let tests = and-yes (leb head largestHead) (haveKinds (wordsIn (w ∷ [])) (headKind ∷ replicate (head * n) entryKind)) shape in
+      stray (
+        eqb→eq (wordOf w .kind) headKind (and-yes (eqb (wordOf w .kind) headKind) _ (tests .1) .0),
+        leb→le head largestHead (tests .0),
+      )

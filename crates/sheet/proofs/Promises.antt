@@ -5,7 +5,8 @@
 --   own-block-passes    an answer's own block passes
 --   added-always        an equation in words is added as document 02 says, minus signs and large numbers included,
 --   typed-always        and a typed one is turned away or added so
---   class-always        the claims of a class are marked as each is singly
+--   class-always        the claims of a class are marked as each is singly,
+--   strays              and a word that is no head is one of them
 --   zeros-are-fresh     zeroed memory is a fresh sheet
 --   reads-on            calls go on from what the memory reads as
 use mathlib.Core.Path.{_≡_, refl, ap, ap₂, subst, sym, _∙_}
@@ -38,14 +39,14 @@ use Rattle.sheet.specs.declared.marking.Marked.the-variants.{Gets}
 use Rattle.sheet.specs.Record.{Sheet, fresh, ledgerOf}
 use Rattle.sheet.specs.Calls.{enteredOf, answeredOf, bufferAfter, shownOf, markedOf, classedOf, marksAfter}
 use Rattle.sheet.specs.History.{sheetFrom, after}
-use Rattle.sheet.specs.Promises.{NothingSolves, Shows, RightMark, RightSheet, Demand3, DecidedAlways, OwnBlockPasses, ZerosAreFresh, RightAlways, ReadsOn, AddedAlways, TypedAlways, ClassAlways}
+use Rattle.sheet.specs.Promises.{NothingSolves, Shows, RightMark, RightSheet, Demand3, DecidedAlways, OwnBlockPasses, ZerosAreFresh, RightAlways, ReadsOn, AddedAlways, TypedAlways, ClassAlways, StrayWords}
 use Rattle.sheet.proofs.Reading.{reads-allowed}
 use Rattle.sheet.proofs.History.{from-reads, fresh-unopened, after-reads, left-refused}
 use Rattle.sheet.proofs.Solved.{solved-words, shown-block}
 use Rattle.sheet.proofs.Answers.{answered-short, answered-wrote, answered-asked, buffer-asked, shown-refusal, right-block}
 use Rattle.sheet.proofs.Marks.{right-mark, own-mark}
 use Rattle.sheet.proofs.Classes.{classed-asked, marks-asked}
-use Rattle.sheet.proofs.Classed.{right-class}
+use Rattle.sheet.proofs.Classed.{right-class, stray-words}
 use Rattle.sheet.proofs.Added.{right-adding}
 use Rattle.sheet.proofs.Typed.{right-typing}
 
@@ -123,6 +124,9 @@ typed-always s m n es text reads = right-typing s m n es text reads (positive s 
 
 pub class-always : ClassAlways
 class-always s m n es ws old reads = right-class m n es (positive s m n es reads) ws old s reads
+
+pub strays : StrayWords
+strays = stray-words
 
 pub own-block-passes : OwnBlockPasses
 own-block-passes calls m n es old holds solvable h =

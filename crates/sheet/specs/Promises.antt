@@ -22,14 +22,14 @@ use Rattle.equations.specs.Multipliers.{refutes, allBelow}
 use Rattle.equations.specs.declared.Mark.the-variants.{Pass, Fail}
 use Rattle.equations.specs.Claim.{Claim, describes}
 use Rattle.system.specs.Block.{answerOf}
-use Rattle.words.specs.Words.{word, wordsIn, wordsOf, headKind, entryKind, multiplierKind}
+use Rattle.words.specs.Words.{word, wordOf, wordsIn, wordsOf, headKind, entryKind, multiplierKind}
 use Rattle.words.specs.Signs.{wholesOf}
 use Rattle.grammar.specs.Tree.{Sides}
 use Rattle.grammar.specs.Grammar.{Typed, largestText}
 use Rattle.grammar.specs.Meaning.{HoldsMod}
 use Rattle.ledger.specs.Ledger.{unopened, opened, modulusOf, unknownsOf, equationsIn, mostEquations}
 use Rattle.ledger.specs.Allowed.{Allowed}
-use Rattle.ledger.specs.Shapes.{isEquation, isClaim, entriesOf, claimFrom}
+use Rattle.ledger.specs.Shapes.{isEquation, isClaim, largestHead, entriesOf, claimFrom}
 use Rattle.ledger.specs.Block.{longestBlock, blockWords, answerWords}
 use Rattle.ledger.specs.Marking.{claimMark}
 use Rattle.ledger.specs.Classes.{mostClaims, claimsIn}
@@ -185,15 +185,20 @@ pub record RightAdding (s : Sheet) (m n : ℕ) (es : List Equation) (ws : List �
 abbrev pub AddedAlways : Type 0
 AddedAlways = (s : Sheet) (m n : ℕ) (es : List Equation) (ws : List ℕ) → ledgerOf s ≡ opened m n es → RightAdding s m n es ws
 
+-- What the byte of a claim in words says, on a ledger that has m, n and es: "0 fail, 1 pass or the refusal number plus 100".
+pub record RightByte (m n : ℕ) (es : List Equation) (ws : List ℕ) (byte : ℕ) : Type 0 where
+  -- of a well-formed claim 1 exactly where "the vectors it describes are the vectors that solve all those equations", and 0 otherwise
+  pub passed : WellFormed m n ws → (byte ≡ 1) ↔ DescribesSolutions m n es (claimFrom n (wordsIn ws))
+  pub failed : WellFormed m n ws → (byte ≡ 0) ↔ (DescribesSolutions m n es (claimFrom n (wordsIn ws)) → ⊥)
+  -- "Shape right? 1. Entries below m? 6."
+  pub misshapen : (byte ≡ 101) ↔ (T (isClaim n (wordsIn ws)) → ⊥)
+  pub notBelow : (byte ≡ 106) ↔ (T (isClaim n (wordsIn ws)) × (T (allBelow m (entriesOf (wordsIn ws))) → ⊥))
+
 -- The bytes of an accepted class with these claims, on a sheet whose ledger has m, n and es; they held `old`.
 pub record RightMarks (s : Sheet) (m n : ℕ) (es : List Equation) (claims : List (List ℕ)) (old new : List ℕ) : Type 0 where
   -- "The bytes are those that marking each claim singly would give, in that order"
   pub singly : (i : ℕ) → i < length claims → getD new i 0 ≡ markByte (markedOf (ledgerOf s) (getD claims i []))
-  -- so 1 is for a well-formed claim exactly where "the vectors it describes are the vectors that solve all those equations", and 0 otherwise
-  pub passed : (i : ℕ) → i < length claims → WellFormed m n (getD claims i [])
-      → (getD new i 0 ≡ 1) ↔ DescribesSolutions m n es (claimFrom n (wordsIn (getD claims i [])))
-  pub failed : (i : ℕ) → i < length claims → WellFormed m n (getD claims i [])
-      → (getD new i 0 ≡ 0) ↔ (DescribesSolutions m n es (claimFrom n (wordsIn (getD claims i []))) → ⊥)
+  pub says : (i : ℕ) → i < length claims → RightByte m n es (getD claims i []) (getD new i 0)
   -- "bytes past the last claim keep their content"
   pub size : length new ≡ length old
   pub kept : (i : ℕ) → length claims ≤ i → getD new i 0 ≡ getD old i 0
@@ -209,6 +214,12 @@ pub record RightClass (s : Sheet) (m n : ℕ) (es : List Equation) (ws old : Lis
 -- Whatever the memory holds, and so after every list of calls.
 abbrev pub ClassAlways : Type 0
 ClassAlways = (s : Sheet) (m n : ℕ) (es : List Equation) (ws old : List ℕ) → ledgerOf s ≡ opened m n es → RightClass s m n es ws old
+
+-- "a word of another kind where a head should stand is a claim of one word and gets 101"; and so does a head "with a number above 17"
+abbrev pub StrayWords : Type 0
+StrayWords =
+    (m n : ℕ) (es : List Equation) (w : ℕ) (ws : List ℕ) → ((wordOf w .kind ≡ headKind) × (wordOf w .number ≤ largestHead) → ⊥)
+    → (claimsIn n (w ∷ ws) ≡ (w ∷ []) ∷ claimsIn n ws) × (markByte (markedOf (opened m n es) (w ∷ [])) ≡ 101)
 
 -- "texts outside this grammar or over 256 bytes"
 abbrev pub NoEquation : List ℕ → Type 0
