@@ -6,8 +6,7 @@
 --   front-length   how long it is
 --   front-fits     it still lies in the array
 --   front-size     and is as long as before
---   front-rows     the rows that are packed in p
---   front-read     are read
+--   front-read     the rows that are packed in p are read
 --   rows-alone     packed rows with no carried column
 use mathlib.Core.Path.{_≡_, sym, ap, _∙_}
 use mathlib.Core.List.{List, _++_}
@@ -48,12 +47,9 @@ module _ (w size : ℕ) (few : w ≤ 17) (is : size ≡ triangle w w) where
     pub front-fits : size ≤ length (p ++ drop size cleared)
     front-fits = joined-fit size cleared p whole
 
-    pub front-rows : (l : ℕ) → rows w l (take size (p ++ drop size cleared)) ≡ rows w l p
-    front-rows l = ap (rows w l) (take-at p (drop size cleared) size whole)
-
     pub front-read : {A : Type 0} (f : List (List ℕ) → A) (x : A) (l : ℕ) (B : List (List ℕ)) → rows w l p ≡ B
         → x ≡ f (rows w l (take size (p ++ drop size cleared))) → x ≡ f B
-    front-read f x l B g h = h ∙ ap f (front-rows l ∙ g)
+    front-read f x l B g h = h ∙ ap f (ap (rows w l) (take-at p (drop size cleared) size whole) ∙ g)
 
 pub rows-alone : (w l : ℕ) (s : List ℕ) (B : List (List ℕ)) → rows w (l + 0) s ≡ B → rows w l s ≡ B
 rows-alone w l s B g = ap (λ (i : ℕ). rows w i s) (sym (add-zero l)) ∙ g

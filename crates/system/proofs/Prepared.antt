@@ -1,8 +1,7 @@
 -- The basis of the lines in lent memory: there already, or zeros where it is to be built. `size` numbers are lent for it, and come back as p.
 --   ready-size            the memory's length
 --   ready-there           its first number is not 0: the basis is there
---   ready-zeros           its first number is 0: it is zeros
---   room-within, -length, -zeros   the part that is lent then
+--   room-within, -length, -zeros   it is 0: the part that is lent then
 --   prepared              and what has come back
 --   prepared-front        where the basis lies
 use mathlib.Core.Path.{_≡_, sym, ap, subst, _∙_}
@@ -33,7 +32,8 @@ module _ (m n : ℕ) (lines s : List ℕ) where
   ready-there ready some =
       ⊎-elim (λ zeros. absurd (some (ap (λ (xs : List ℕ). getD xs 0 0) zeros))) (λ there. there) (ready-is m n lines s ready)
 
-  pub ready-zeros : Ready m n lines s → getD s 0 0 ≡ 0 → s ≡ replicate basisRoom 0
+  -- where it is 0, so is all of the memory
+  ready-zeros : Ready m n lines s → getD s 0 0 ≡ 0 → s ≡ replicate basisRoom 0
   ready-zeros ready none =
       ⊎-elim (λ zeros. zeros) (λ there. absurd (omega (arith, there .there))) (ready-is m n lines s ready)
 

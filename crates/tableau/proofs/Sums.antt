@@ -24,6 +24,14 @@ dot-grow i (x ∷ a) [] h l = absurd (omega arith)
 dot-grow zero (x ∷ a) (y ∷ b) h l = omega arith
 dot-grow (suc i) (x ∷ a) (y ∷ b) h l = omega (arith, dot-grow i a b (suc-inj h) (omega arith))
 
+-- the sum of the first i products: with one more, and where these are all
+module _ (i : ℕ) (a b : List ℕ) (h : length a ≡ length b) where
+  dot-more : i < length a → dot (take i a) (take i b) + getD a i 0 * getD b i 0 ≡ dot (take (i + 1) a) (take (i + 1) b)
+  dot-more l = sym (dot-grow i a b h l) ∙ ap (λ (k : ℕ). dot (take k a) (take k b)) (sym (add-one i))
+
+  dot-all : i ≡ length a → dot (take i a) (take i b) ≡ dot a b
+  dot-all e = ap₂ dot (ap (λ (k : ℕ). take k a) e ∙ take-length a) (ap (λ (k : ℕ). take k b) (e ∙ h) ∙ take-length b)
+
 -- the sum is n. It stays shut, as `Halves` does below.
 unfoldable pub Summed : ℕ → ℕ → Type 0
 Summed all n = all ≡ n
@@ -35,13 +43,11 @@ summed-start a b = refl
 module _ (i all : ℕ) (a b : List ℕ) (h : length a ≡ length b) (so-far : Summed all (dot (take i a) (take i b))) where
   pub summed-next : (x : ℕ) → i < length a → x ≡ getD a i 0 * getD b i 0 → Summed (all + x) (dot (take (i + 1) a) (take (i + 1) b))
   unfolding Summed
-  summed-next x l e =
-      ap₂ _+_ so-far e ∙ sym (dot-grow i a b h l) ∙ ap (λ (k : ℕ). dot (take k a) (take k b)) (sym (add-one i))
+  summed-next x l e = ap₂ _+_ so-far e ∙ dot-more i a b h l
 
   pub summed-end : i ≡ length a → all ≡ dot a b
   unfolding Summed
-  summed-end e =
-      so-far ∙ ap₂ dot (ap (λ (k : ℕ). take k a) e ∙ take-length a) (ap (λ (k : ℕ). take k b) (e ∙ h) ∙ take-length b)
+  summed-end e = so-far ∙ dot-all i a b h e
 
 pub small-product : (m x y : ℕ) → m ≤ 16777216 → x < m → y < m → x * y ≤ 281474943156225
 small-product m x y small h g = mul-le-mul {n₁ = x} {m₁ = y} {n₂ = 16777215} {m₂ = 16777215} (omega arith) (omega arith)
@@ -60,14 +66,12 @@ pub halves-next : (i low high p q : ℕ) (a b : List ℕ) → length a ≡ lengt
     → Halves (low + p) (high + q) (dot (take (i + 1) a) (take (i + 1) b))
 unfolding Halves
 halves-next i low high p q a b h l e f g =
-    omega (arith, e, f, g, div-add-mod' (getD a i 0 * getD b i 0) 4294967296) ∙ sym (dot-grow i a b h l)
-    ∙ ap (λ (k : ℕ). dot (take k a) (take k b)) (sym (add-one i))
+    omega (arith, e, f, g, div-add-mod' (getD a i 0 * getD b i 0) 4294967296) ∙ dot-more i a b h l
 
 pub halves-end : (i low high : ℕ) (a b : List ℕ) → length a ≡ length b → i ≡ length a
     → Halves low high (dot (take i a) (take i b)) → low + high * 4294967296 ≡ dot a b
 unfolding Halves
-halves-end i low high a b h e f =
-    f ∙ ap₂ dot (ap (λ (k : ℕ). take k a) e ∙ take-length a) (ap (λ (k : ℕ). take k b) (e ∙ h) ∙ take-length b)
+halves-end i low high a b h e f = f ∙ dot-all i a b h e
 
 high-half : (x : ℕ) → x ≤ 18446744065119617025 → x / 4294967296 ≤ 4294967295
 high-half x h = omega arith
