@@ -10,13 +10,13 @@ use mathlib.Core.List.{List, [], _∷_}
 use Prim.Native.Nat.{ℕ, _+_, _*_, _<_, _≤_}
 use native.Mathlib.Omega.{arith}
 use lib.Dec.{T, eqb, leb, eqb→eq, leb→le}
-use lib.ListN.{length, take, drop, getD, replicate, length-take}
-use mir.Facts.{and-yes}
+use lib.ListN.{length, take, drop, getD, length-take}
 use Rattle.slices.proofs.Parts.{lent, lent-is, take-taken, drop-taken}
 use Rattle.equations.proofs.Truth.{of-true}
-use Rattle.words.specs.Words.{wordOf, wordsIn, haveKinds, headKind, entryKind}
+use Rattle.words.specs.Words.{wordOf, wordsIn, headKind}
 use Rattle.ledger.specs.Shapes.{largestHead, isClaim}
 use Rattle.ledger.specs.Classes.{claimWords, firstClaim, claimsIn, claims-none, claim-takes, claims-first}
+use Rattle.ledger.proofs.Shapes.{claim-kind, claim-head}
 
 module _ (n : ℕ) (ws : List ℕ) (some : 0 < length ws) {used : ℕ} (is : used ≡ length (firstClaim n ws)) where
   abbrev k : ℕ
@@ -53,9 +53,4 @@ module _ (n w : ℕ) (stray : (wordOf w .kind ≡ headKind) × (wordOf w .number
 
   pub stray-shape : T (isClaim n (wordsIn (w ∷ []))) → ⊥
   unfolding wordsIn
-  stray-shape shape =
-      let tests = and-yes (leb head largestHead) (haveKinds (wordsIn (w ∷ [])) (headKind ∷ replicate (head * n) entryKind)) shape in
-      stray (
-        eqb→eq (wordOf w .kind) headKind (and-yes (eqb (wordOf w .kind) headKind) _ (tests .1) .0),
-        leb→le head largestHead (tests .0),
-      )
+  stray-shape shape = stray (claim-kind n (w ∷ []) shape, claim-head n (w ∷ []) shape)

@@ -1,7 +1,8 @@
 -- How many words an opening, an equation and a claim have, and what follows for their numbers.
 --   opening-length     an opening has two words
 --   equation-length    an equation has n + 1
---   claim-head         a claim's head is at most 17
+--   claim-kind         a claim begins with a head,
+--   claim-head         which is at most 17
 --   claim-length       and counts the vectors of n words behind it,
 --   claim-some         so that there is a head,
 --   claim-fits         and behind it no more words than 17 vectors of 16 entries
@@ -12,14 +13,14 @@ use mathlib.Core.List.{List, [], _∷_, _++_}
 use Prim.Native.Nat.{ℕ, suc, _+_, _*_, _%_, _<_, _≤_}
 use native.Mathlib.Nat.{mul-le-mul, mul-mod-left}
 use native.Mathlib.Omega.{arith}
-use lib.Dec.{T, leb, leb→le}
-use lib.ListN.{length, replicate, length-drop, length-append, length-replicate}
+use lib.Dec.{T, leb, leb→le, eqb, eqb→eq}
+use lib.ListN.{length, getD, replicate, length-drop, length-append, length-replicate}
 use mir.Facts.{and-yes}
 use Rattle.equations.specs.Multipliers.{allBelow}
 use Rattle.equations.proofs.Truth.{true-of}
 use Rattle.equations.proofs.Vectors.{all-below}
 use Rattle.system.specs.Claims.{Claimed}
-use Rattle.words.specs.Words.{wordsIn, kindsOf, numbersOf, haveKinds, modulusKind, unknownsKind, coefficientKind, rightKind, headKind, entryKind}
+use Rattle.words.specs.Words.{wordOf, wordsIn, kindsOf, numbersOf, haveKinds, modulusKind, unknownsKind, coefficientKind, rightKind, headKind, entryKind}
 use Rattle.words.specs.Signs.{plainKindsOf}
 use Rattle.words.proofs.Compared.{kinds-length}
 use Rattle.words.proofs.Words.{plainKindOf, parts-count, kinds-count, numbers-count}
@@ -42,6 +43,13 @@ equation-length n ws shape =
     sym (parts-count plainKindOf ws)
     ∙ kinds-length (plainKindsOf (wordsIn ws)) (replicate n coefficientKind ++ (rightKind ∷ [])) shape ∙ equation-kinds n
 
+-- the first of them
+have-first : (ws : List ℕ) (k : ℕ) (ks : List ℕ) → T (haveKinds (wordsIn ws) (k ∷ ks)) → wordOf (getD ws 0 0) .kind ≡ k
+unfolding wordsIn
+have-first [] k ks h = absurd h
+have-first (w ∷ ws) k ks h =
+    eqb→eq (wordOf w .kind) k (and-yes (eqb (wordOf w .kind) k) (haveKinds (wordsIn ws) ks) h .0)
+
 module _ (n : ℕ) (ws : List ℕ) (shape : T (isClaim n (wordsIn ws))) where
   abbrev head : ℕ
   head = numberAt (wordsIn ws) 0
@@ -51,6 +59,9 @@ module _ (n : ℕ) (ws : List ℕ) (shape : T (isClaim n (wordsIn ws))) where
 
   tests : T (leb head largestHead) × T (haveKinds (wordsIn ws) kinds)
   tests = and-yes (leb head largestHead) (haveKinds (wordsIn ws) kinds) shape
+
+  pub claim-kind : wordOf (getD ws 0 0) .kind ≡ headKind
+  claim-kind = have-first ws headKind (replicate (head * n) entryKind) (tests .1)
 
   pub claim-head : numberAt (wordsIn ws) 0 ≤ largestHead
   claim-head = leb→le head largestHead (tests .0)

@@ -1,5 +1,5 @@
 -- What document 02 says of a class, S-4.
---   stray-words   a word that is no head of at most 17 is a claim of one word and gets 101
+--   right-strays  a word that is no head of at most 17 is a claim of one word and gets 101
 --   right-class   a class is marked exactly where there are at most 64 claims and bytes enough, and then as each claim is singly
 use mathlib.Core.Path.{_≡_, refl, sym, ap, subst, _∙_}
 use mathlib.Core.Logic.{_↔_}
@@ -9,7 +9,7 @@ use Prim.Native.Nat.{ℕ, _<_, _≤_}
 use native.Mathlib.Omega.{arith}
 use borrow.Author.Tests.{le-leb}
 use lib.Dec.{T}
-use lib.ListN.{length, drop, getD, length-map, List·getD-append}
+use lib.ListN.{length, drop, getD, List·getD-append}
 use Rattle.slices.specs.Over.{over}
 use Rattle.slices.proofs.Over.{over-past, over-long}
 use Rattle.questions.specs.Questions.{asks, firstNo, unlessRefused}
@@ -32,7 +32,7 @@ use Rattle.sheet.specs.Record.{Sheet, ledgerOf}
 use Rattle.sheet.specs.Calls.{markedOf, markByte, classBytes, classedOf, marksAfter}
 use Rattle.sheet.specs.Promises.{WellFormed, DescribesSolutions, RightByte, RightMarks, RightClass, StrayWords}
 use Rattle.sheet.proofs.Marks.{marked-accepted, well-accepted, mark-tells}
-use Rattle.sheet.proofs.Classes.{map-at, class-few, class-fits, class-accepted, class-marked}
+use Rattle.sheet.proofs.Classes.{map-at, bytes-count, class-few, class-fits, class-accepted, class-marked}
 
 -- ---- one byte
 
@@ -95,8 +95,8 @@ module _ (m n : ℕ) (es : List Equation) (ws : List ℕ) where
         notBelow = tells .1;
       }
 
-pub stray-words : StrayWords
-stray-words m n es w ws stray = (stray-first n w stray ws, tells m n es (w ∷ []) .0 .1 (stray-shape n w stray))
+pub right-strays : StrayWords
+right-strays m n es w ws stray = (stray-first n w stray ws, tells m n es (w ∷ []) .0 .1 (stray-shape n w stray))
 
 -- ---- all bytes
 
@@ -114,12 +114,6 @@ module _ (m n : ℕ) (es : List Equation) (pos : 0 < m) (ws old : List ℕ) wher
   unfolding refusalOf
   fit-accepted fit = rw (le-leb (length claims) mostClaims (fit .0), le-leb (length claims) (length old) (fit .1))
 
-  abbrev byteOf : List ℕ → ℕ
-  byteOf claim = markByte (markedOf l claim)
-
-  bytes-count : length (classBytes l ws) ≡ length claims
-  bytes-count = length-map claims byteOf
-
   module _ (accepted : refusalOf l (queries (classes ws old)) ≡ 0) where
     after : marksAfter l ws old ≡ over (classBytes l ws) old
     after = sym (class-marked l ws old accepted refl refl .1)
@@ -127,8 +121,8 @@ module _ (m n : ℕ) (es : List Equation) (pos : 0 < m) (ws old : List ℕ) wher
     singly : (i : ℕ) → i < length claims → getD (marksAfter l ws old) i 0 ≡ markByte (markedOf l (getD claims i []))
     singly i at =
         ap (λ (xs : List ℕ). getD xs i 0) after
-        ∙ List·getD-append (classBytes l ws) (drop (length (classBytes l ws)) old) 0 i (omega (arith, bytes-count))
-        ∙ map-at byteOf claims i [] at
+        ∙ List·getD-append (classBytes l ws) (drop (length (classBytes l ws)) old) 0 i (omega (arith, bytes-count l ws))
+        ∙ map-at (λ (claim : List ℕ). markByte (markedOf l claim)) claims i [] at
 
     right-marks : (s : Sheet) → ledgerOf s ≡ l → RightMarks s m n es (claimsIn n ws) old (marksAfter l ws old)
     right-marks s reads =
@@ -136,9 +130,9 @@ module _ (m n : ℕ) (es : List Equation) (pos : 0 < m) (ws old : List ℕ) wher
           singly = λ i at. singly i at ∙ ap (λ (k : Ledger). markByte (markedOf k (getD claims i []))) (sym reads);
           says = λ i at.
               subst (RightByte m n es (getD claims i [])) (sym (singly i at)) (right-byte m n es (getD claims i []) pos);
-          size = ap length after ∙ over-long (classBytes l ws) old (omega (arith, bytes-count, class-fits l ws old accepted));
+          size = ap length after ∙ over-long (classBytes l ws) old (omega (arith, bytes-count l ws, class-fits l ws old accepted));
           kept = λ i past.
-              ap (λ (xs : List ℕ). getD xs i 0) after ∙ over-past (classBytes l ws) old i 0 (omega (arith, bytes-count));
+              ap (λ (xs : List ℕ). getD xs i 0) after ∙ over-past (classBytes l ws) old i 0 (omega (arith, bytes-count l ws));
         }
 
   allowed : (classedOf l ws old ≡ Claims (length (claimsIn n ws))) ↔ Fit

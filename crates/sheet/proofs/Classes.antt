@@ -1,6 +1,7 @@
 -- A class: its bytes one after the other, and what is given back and left of the marks.
 --   byte-fits                       the number of a refused claim is small
 --   map-at                          one byte of all
+--   bytes-count                     there are as many as claims
 --   BytesSo                         the bytes of the first i claims are written, and the claims behind them are those of the rest
 --   bytes-none, bytes-more, -all    before the first claim, a claim more, and after the last
 --   bytes-left                      there is a byte for the next claim
@@ -76,15 +77,15 @@ drop-first (suc i) (x ∷ xs) is = let rest = drop-first i xs is in (omega (arit
 pub map-at : {A : Type 0} (f : A → ℕ) (xs : List A) (i : ℕ) (z : A) → i < length xs → getD (map f xs) i 0 ≡ f (getD xs i z)
 map-at f xs i z at = drop-first i xs (drop-cons xs i z at) .2 f
 
+pub bytes-count : (l : Ledger) (ws : List ℕ) → length (classBytes l ws) ≡ length (claimsOf l ws)
+bytes-count l ws = length-map (claimsOf l ws) (λ (claim : List ℕ). markByte (markedOf l claim))
+
 module _ (l : Ledger) (words old : List ℕ) where
   abbrev byte : List ℕ → ℕ
   byte claim = markByte (markedOf l claim)
 
   abbrev pub BytesSo : ℕ → List ℕ → List ℕ → Type 0
   BytesSo i rest new = Copied i (classBytes l words) old new × (drop i (claimsOf l words) ≡ claimsOf l rest)
-
-  bytes-count : length (classBytes l words) ≡ length (claimsOf l words)
-  bytes-count = length-map (claimsOf l words) byte
 
   pub bytes-none : BytesSo 0 words old
   bytes-none = (copied-none (classBytes l words) old, refl)
@@ -102,7 +103,7 @@ module _ (l : Ledger) (words old : List ℕ) where
       pub bytes-more : {x : ℕ} → x ≡ markByte (markedOf l (take used rest)) → BytesSo (i + 1) (lent used rest) (set new i x)
       bytes-more made =
           let first = drop-first i (claimsOf l words) next in (
-            copied-more i (classBytes l words) old 0 (so-far .0) (omega (arith, bytes-count, first .0)) (omega (arith, first .0))
+            copied-more i (classBytes l words) old 0 (so-far .0) (omega (arith, bytes-count l words, first .0)) (omega (arith, first .0))
                 (made ∙ sym (first .2 byte)),
             ap (λ (k : ℕ). drop k (claimsOf l words)) (add-one i) ∙ first .1,
           )
@@ -111,7 +112,7 @@ module _ (l : Ledger) (words old : List ℕ) where
     bytes-all none =
         let behind : length (claimsOf l words) - i ≡ 0 =
         sym (length-drop i (claimsOf l words)) ∙ ap length (so-far .1 ∙ claims-end (unknownsOf l) rest none) in
-        copied-all i (classBytes l words) old (so-far .0) (omega (arith, bytes-count, so-far .0 .0))
+        copied-all i (classBytes l words) old (so-far .0) (omega (arith, bytes-count l words, so-far .0 .0))
 
 -- ---- the call
 
@@ -124,7 +125,7 @@ module _ (l : Ledger) (ws old : List ℕ) where
   number k = firstNo (asks 4 (isOpened l) ∷ asks 14 (leb many mostClaims) ∷ asks 8 (leb k (length old)) ∷ [])
 
   same-number : number (length (classBytes l ws)) ≡ number many
-  same-number = ap number (length-map (claimsOf l ws) (λ (claim : List ℕ). markByte (markedOf l claim)))
+  same-number = ap number (bytes-count l ws)
 
   pub classed-asked : classedOf l ws old
       ≡ unlessRefused Refused (refusalOf l (queries (classes ws old))) (Claims (length (claimsOf l ws)))

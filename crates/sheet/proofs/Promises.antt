@@ -6,7 +6,7 @@
 --   added-always        an equation in words is added as document 02 says, minus signs and large numbers included,
 --   typed-always        and a typed one is turned away or added so
 --   class-always        the claims of a class are marked as each is singly,
---   strays              and a word that is no head is one of them
+--   stray-words         and a word that is no head is one of them
 --   zeros-are-fresh     zeroed memory is a fresh sheet
 --   reads-on            calls go on from what the memory reads as
 use mathlib.Core.Path.{_≡_, refl, ap, ap₂, subst, sym, _∙_}
@@ -46,7 +46,7 @@ use Rattle.sheet.proofs.Solved.{solved-words, shown-block}
 use Rattle.sheet.proofs.Answers.{answered-short, answered-wrote, answered-asked, buffer-asked, shown-refusal, right-block}
 use Rattle.sheet.proofs.Marks.{right-mark, own-mark}
 use Rattle.sheet.proofs.Classes.{classed-asked, marks-asked}
-use Rattle.sheet.proofs.Classed.{right-class, stray-words}
+use Rattle.sheet.proofs.Classed.{right-class, right-strays}
 use Rattle.sheet.proofs.Added.{right-adding}
 use Rattle.sheet.proofs.Typed.{right-typing}
 
@@ -125,8 +125,8 @@ typed-always s m n es text reads = right-typing s m n es text reads (positive s 
 pub class-always : ClassAlways
 class-always s m n es ws old reads = right-class m n es (positive s m n es reads) ws old s reads
 
-pub strays : StrayWords
-strays = stray-words
+pub stray-words : StrayWords
+stray-words = right-strays
 
 pub own-block-passes : OwnBlockPasses
 own-block-passes calls m n es old holds solvable h =
