@@ -5,23 +5,14 @@
 //!     sheets run HOW CASE COUNT   that many calls, or tapes, for an instruction counter
 #[path = "../tests/random.rs"]
 mod random;
+mod sheet;
 
 use random::Random;
+use sheet::{block, filled, milebadger_add, milebadger_answer, milebadger_mark, opening, word, Sheet};
 use std::time::{Duration, Instant};
 
-/// The header's milebadger_sheet.
-#[repr(C)]
-#[derive(Clone, Copy, PartialEq)]
-struct Sheet {
-    numbers: [u32; 291],
-}
-
 extern "C" {
-    fn milebadger_open(sheet: *mut Sheet, words: *const u32, words_len: usize) -> i64;
-    fn milebadger_add(sheet: *mut Sheet, words: *const u32, words_len: usize) -> i64;
     fn milebadger_add_text(sheet: *mut Sheet, text: *const u8, text_len: usize) -> i64;
-    fn milebadger_answer(sheet: *const Sheet, out: *mut u32, out_len: usize) -> i64;
-    fn milebadger_mark(sheet: *const Sheet, words: *const u32, words_len: usize) -> i64;
     fn milebadger_tape(tape: *const u8, tape_len: usize, out: *mut u8, out_len: usize) -> i64;
 }
 
@@ -39,7 +30,7 @@ enum Call {
 #[derive(Clone, Copy)]
 struct Case {
     call: Call,
-    m: u32,
+    m: u64,
     n: usize,
 }
 
@@ -65,15 +56,11 @@ fn cases() -> Vec<Case> {
     cases
 }
 
-fn word(kind: u32, number: u32) -> u32 {
-    kind << 28 | number
-}
-
 /// A line of random coefficients with the right side that this solution gives it, as words.
-fn line(m: u32, solution: &[u64], random: &mut Random) -> Vec<u32> {
-    let coefficients: Vec<u64> = solution.iter().map(|_| random.below(m as u64)).collect();
-    let right = coefficients.iter().zip(solution).map(|(a, x)| a * x).sum::<u64>() % m as u64;
-    coefficients.iter().map(|&a| word(3, a as u32)).chain([word(4, right as u32)]).collect()
+fn line(m: u64, solution: &[u64], random: &mut Random) -> Vec<u32> {
+    let mut numbers: Vec<u64> = solution.iter().map(|_| random.below(m)).collect();
+    numbers.push(numbers.iter().zip(solution).map(|(a, x)| a * x).sum::<u64>() % m);
+    sheet::line(&numbers)
 }
 
 /// The line of these words as it is typed: 12*x1 + 7*x2 = 5.
@@ -95,19 +82,12 @@ struct Work {
 impl Work {
     /// Its calls on the way are accepted.
     fn new(case: Case, random: &mut Random) -> Work {
-        let solution: Vec<u64> = (0..case.n).map(|_| random.below(case.m as u64)).collect();
-        let opening = vec![word(1, case.m), word(2, case.n as u32)];
+        let solution: Vec<u64> = (0..case.n).map(|_| random.below(case.m)).collect();
+        let opening = opening(case.m, case.n);
         let lines: Vec<Vec<u32>> = (0..case.n).map(|_| line(case.m, &solution, random)).collect();
-        let (mut sheet, mut block) = (Sheet { numbers: [0; 291] }, vec![0; 273]);
-        assert_eq!(unsafe { milebadger_open(&mut sheet, opening.as_ptr(), 2) }, 0);
         let (last, others) = lines.split_last().unwrap();
-        for (held, line) in others.iter().enumerate() {
-            assert_eq!(unsafe { milebadger_add(&mut sheet, line.as_ptr(), line.len()) }, held as i64 + 1);
-        }
-        let mut full = sheet;
-        assert_eq!(unsafe { milebadger_add(&mut full, last.as_ptr(), last.len()) }, case.n as i64);
-        let wrote = unsafe { milebadger_answer(&full, block.as_mut_ptr(), block.len()) };
-        block.truncate(usize::try_from(wrote).expect("a refusal"));
+        let (sheet, full) = (filled(&opening, others), filled(&opening, &lines));
+        let block = block(&full);
         let tape = [opening, lines.concat()].concat();
         let (sheet, words, asked) = match case.call {
             Call::Add | Call::AddText => (sheet, last.clone(), vec![]),

@@ -87,6 +87,42 @@ static void show_contradiction(const struct page *page, int64_t held, const uint
     printf("    add up to 0 = a number that is not 0 mod %" PRIu32 ": no solution\n", page->m);
 }
 
+static void show_vector(const char *what, uint32_t n, const uint32_t *entries)
+{
+    printf("    %s", what);
+    for (uint32_t i = 0; i < n; i++)
+        printf(" %" PRIu32, entries[i]);
+    printf("\n");
+}
+
+/* Why a claim fails. */
+static void show_reason(const struct page *page, const uint32_t *claim, size_t count)
+{
+    uint32_t at[3] = {0}, shown[MILEBADGER_LONGEST_REASON];
+    int64_t reason = milebadger_reason(&page->sheet, claim, count, at, 3, shown, MILEBADGER_LONGEST_REASON);
+    for (uint32_t i = 0; i < at[2]; i++)
+        shown[i] = MILEBADGER_NUMBER(shown[i]);
+    switch (reason) {
+    case MILEBADGER_REASON_SOLVABLE:
+        show_vector("there is a solution:", page->n, shown);
+        break;
+    case MILEBADGER_REASON_UNSOLVABLE:
+        show_contradiction(page, at[2], shown);
+        break;
+    case MILEBADGER_REASON_START:
+        printf("    the start does not solve line %" PRIu32 ": %s\n", at[1], page->lines[at[1] - 1]);
+        break;
+    case MILEBADGER_REASON_STEP:
+        printf("    step %" PRIu32 " changes the left side of line %" PRIu32 ": %s\n", at[0], at[1], page->lines[at[1] - 1]);
+        break;
+    case MILEBADGER_REASON_MISSED:
+        show_vector("this solution is missing:", page->n, shown);
+        break;
+    default:
+        made(reason);
+    }
+}
+
 static void show_mark(int64_t mark)
 {
     if (made(mark))
@@ -123,7 +159,10 @@ static void mark_claim(const struct page *page, uint32_t vectors, const uint32_t
         printf("%s %" PRIu32, i == 0 ? " from" : i % page->n == 0 ? ", step" : "", entries[i]);
     }
     printf("\n");
-    show_mark(milebadger_mark(&page->sheet, words, 1 + vectors * page->n));
+    int64_t mark = milebadger_mark(&page->sheet, words, 1 + vectors * page->n);
+    show_mark(mark);
+    if (mark == MILEBADGER_FAIL)
+        show_reason(page, words, 1 + vectors * page->n);
 }
 
 int main(void)
@@ -151,6 +190,10 @@ int main(void)
     mark_claim(&ben, 1, (const uint32_t[]){0, 1, 0});
     strike_line(&ben);
     show_answer(&ben);
+    mark_claim(&ben, 0, NULL);
+    mark_claim(&ben, 2, (const uint32_t[]){0, 0, 0, 1, 1, 1});
+    mark_claim(&ben, 2, (const uint32_t[]){0, 1, 0, 1, 1, 0});
+    mark_claim(&ben, 1, (const uint32_t[]){0, 1, 0});
 
     struct page cleo = ada; /* the sheet is copied with the page */
     cleo.student = "Cleo";

@@ -1,8 +1,8 @@
 /* milebadger.h: the calls of the Milebadger library, for exercises on linear equations over the residues 0..m-1.
  *
  * A workbench has a sheet for each student in its own memory. It opens the sheet, adds equations and strikes them, asks
- * for the answer, and has claims marked, one at a time or a class at once. A whole program (x1 + 2·x2 = 0 mod 4, and the
- * claim "0 0, and the step 2 3"):
+ * for the answer, has claims marked, one at a time or a class at once, and asks why one fails. A whole program
+ * (x1 + 2·x2 = 0 mod 4, and the claim "0 0, and the step 2 3"):
  *
  *     #include <inttypes.h>
  *     #include <stdio.h>
@@ -38,19 +38,19 @@
  * Results. A call returns
  *     0 or more   where it is made. Each call says what the number is,
  *     below 0     where it is refused: a question about its arguments has the answer no, and the result is minus the
- *                 first such question's number. Each call lists its questions in their order. Whether `out` or `marks`
- *                 is long enough, -8, is asked last, and only where something would be written. The numbers have names,
- *                 MILEBADGER_REFUSED_.., and milebadger_sentence says them in English.
- * A refused call changes nothing: `sheet`, `out` and `marks` keep every byte. Past what is written, and at the result 0,
- * `out` and `marks` keep their content too.
+ *                 first such question's number. Each call lists its questions in their order. Whether `out`, `marks` or
+ *                 `at` is long enough, -8, is asked last, and only where something would be written. The numbers have
+ *                 names, MILEBADGER_REFUSED_.., and milebadger_sentence says them in English.
+ * A refused call changes nothing: `sheet`, `out`, `marks` and `at` keep every byte. Past what is written they keep their
+ * content too, and at the result 0 `out` and `marks` keep all of it.
  *
  * Memory. `sheet` points to a sheet of the caller's. `out` points to `out_len` numbers, words or bytes that are the
- * caller's, `marks` to `marks_len` bytes. Nobody else uses `out` or `marks` during the call, nor `sheet` where it is not
- * const. `words`, `text`, `lines`, `values` and `tape` point to as many words, numbers or bytes as their lengths say;
- * nobody writes these, or a const `sheet`, meanwhile. None of them overlaps another that the call writes. A length may be
- * 0: the pointer then leads to something of the caller's all the same, and nothing is read or written. The library keeps
- * nothing from one call to the next; what a sheet holds is in the sheet. Calls with different memory may run at the same
- * time.
+ * caller's, `marks` to `marks_len` bytes, `at` to `at_len` numbers. Nobody else uses these three during the call, nor
+ * `sheet` where it is not const. `words`, `text`, `lines`, `values` and `tape` point to as many words, numbers or bytes
+ * as their lengths say; nobody writes these, or a const `sheet`, meanwhile. None of them overlaps another that the call
+ * writes. A length may be 0: the pointer then leads to something of the caller's all the same, and nothing is read or
+ * written. The library keeps nothing from one call to the next; what a sheet holds is in the sheet. Calls with different
+ * memory may run at the same time.
  */
 #ifndef MILEBADGER_H
 #define MILEBADGER_H
@@ -62,20 +62,25 @@
 extern "C" {
 #endif
 
-/* This header's version: 10,000 times its first number, 100 times its second and its third; 20100 is 2.1.0. The header
+/* This header's version: 10,000 times its first number, 100 times its second and its third; 20200 is 2.2.0. The header
  * goes with its library. As long as the first number is the same, a sheet keeps its size and the calls keep their
  * arguments; a program that loads the shared library can ask for that when it starts:
  * milebadger_version() / 10000 == MILEBADGER_VERSION / 10000. */
-#define MILEBADGER_VERSION 20100
+#define MILEBADGER_VERSION 20200
 
 /* The library's version.
  *
  * Returns  the MILEBADGER_VERSION that the library was made with. */
 uint32_t milebadger_version(void);
 
-/* Results with a name: those of a mark, and the refusals. */
+/* Results with a name: those of a mark, the reasons why one fails, and the refusals. */
 #define MILEBADGER_PASS 1
 #define MILEBADGER_FAIL 0
+#define MILEBADGER_REASON_SOLVABLE 1
+#define MILEBADGER_REASON_UNSOLVABLE 2
+#define MILEBADGER_REASON_START 3
+#define MILEBADGER_REASON_STEP 4
+#define MILEBADGER_REASON_MISSED 5
 #define MILEBADGER_REFUSED_SHAPE (-1)
 #define MILEBADGER_REFUSED_MODULUS (-2)
 #define MILEBADGER_REFUSED_UNKNOWNS (-3)
@@ -159,10 +164,12 @@ static inline const char *milebadger_sentence(int64_t result)
 #define MILEBADGER_LONGEST_TAPE 65536 /* bytes */
 #define MILEBADGER_LONGEST_TEXT 256 /* bytes */
 
-/* What is written, at most. Numbers of a block: a head, and 17 vectors of 16 entries. Bytes of a line: 4 letters, 16
- * numbers of 5 digits behind a space each, and 0x0A. Bytes of an answer: such a line for the starting vector, and for 16
- * steps 16 such lines, in which at least 0, 1, .., 15 numbers in front are 0. */
+/* What is written, at most. Numbers of a block: a head, and 17 vectors of 16 entries. Words of a reason: an entry for each
+ * unknown, or a multiplier for each equation. Bytes of a line: 4 letters, 16 numbers of 5 digits behind a space each, and
+ * 0x0A. Bytes of an answer: such a line for the starting vector, and for 16 steps 16 such lines, in which at least 0, 1,
+ * .., 15 numbers in front are 0. */
 #define MILEBADGER_LONGEST_BLOCK 273
+#define MILEBADGER_LONGEST_REASON 16
 #define MILEBADGER_LONGEST_LINE 101
 #define MILEBADGER_LONGEST_ANSWER 1237
 
@@ -269,6 +276,40 @@ int64_t milebadger_class(const milebadger_sheet *sheet, const uint32_t *words, s
 /* The result of milebadger_mark that a byte of a class stands for: 101 is MILEBADGER_REFUSED_SHAPE, for which
  * milebadger_sentence has a sentence. The byte is evaluated twice. */
 #define MILEBADGER_MARK(byte) ((byte) < 100 ? (int64_t)(byte) : 100 - (int64_t)(byte))
+
+/* Why a claim about the equations that are held fails, for a page with hints. The words are those of milebadger_mark. Of
+ * the reasons 1 to 5 the first that holds is the result, and it is true as it stands; 0 says that the claim passes.
+ *
+ *     result, its name   at[0]   at[1]      `out`            a hint page can say
+ *     0                  0       0          nothing          This is right.
+ *     1  SOLVABLE        0       0          a solution       There is a solution, and here is one.
+ *     2  UNSOLVABLE      0       0          multipliers      There is no solution: the equations, multiplied by these
+ *                                                            numbers, add up to 0 = a number that is not 0.
+ *     3  START           0       equation   nothing          The start does not solve this equation.
+ *     4  STEP            step    equation   nothing          This step changes the left side of this equation.
+ *     5  MISSED          0       0          a solution       Here is a solution that the start and the steps do not
+ *                                                            lead to.
+ *
+ * (Each name with MILEBADGER_REASON_ in front.) Steps and equations count from 1. Where there is no solution, the reason is
+ * 2 for every claim but HEAD(0), whatever its start and steps are. 3 gives the first equation that the start does not
+ * solve. 4 gives the first step that changes a left side, and for it the first such equation: the sum of coefficient times
+ * entry of the step is not 0 mod m. The left side of a typed equation has all its unknowns.
+ *
+ * A solution is n words ENTRY(x), multipliers are a word of kind 7 for each equation, as in the answer, without a head. The
+ * solution of 1 is the answer's starting vector. Which multipliers stand behind 2, and of the solutions that are missed
+ * which stands behind 5, is not promised: check them, do not compare them.
+ *
+ * Asks     Opened? If not, -4.  A head of at most 17 and h * n words behind it, of these kinds? If not, -1.
+ *          All entries below m? If not, -6.
+ * Needs    at_len at least 3, also where the claim passes. out_len at least the number of the reason's words: for 3 and 4,
+ *          and where the claim passes, 0 will do. MILEBADGER_LONGEST_REASON is enough for every reason.
+ * Writes   at[0]   the step, or 0;
+ *          at[1]   the equation, or 0;
+ *          at[2]   how many words `out` gets, which may be 0;
+ *          out     these words.
+ * Returns  0 where the claim passes, a reason from 1 to 5 where it fails; or -4, -1, -6, -8. */
+int64_t milebadger_reason(const milebadger_sheet *sheet, const uint32_t *words, size_t words_len, uint32_t *at,
+                          size_t at_len, uint32_t *out, size_t out_len);
 
 /* A tape of calls on one sheet, which begins unopened. A tape is words, each 4 bytes with the low byte first. The first
  * word's kind picks a call and with it how many words the call takes; the next call begins behind them. Each call gives

@@ -1,5 +1,5 @@
-//! Lists of direct calls on a sheet against the reference, which keeps a plain list and tries all vectors. Multipliers are left
-//! free, so they are compared by their property alone.
+//! Lists of direct calls on a sheet against the reference, which keeps a plain list and tries all vectors. Multipliers, and the
+//! solution that a claim misses, are left free, so they are compared by their property alone.
 #![allow(dead_code)]
 
 use crate::exercises::{self, chance, pick};
@@ -9,7 +9,7 @@ use crate::ledger::{self, Call, Ledger, Said, Solved};
 use crate::random::Random;
 use crate::reference::{Answer, System};
 use crate::sheet::{Act, Desk, Outcome, Reply};
-use crate::spelling;
+use crate::{shown, spelling};
 use std::collections::BTreeSet;
 
 pub fn open(m: u32, n: u32) -> Act {
@@ -38,6 +38,11 @@ pub fn class(random: &mut Random, words: &[u32], bytes: usize) -> Act {
     Act::Class(words.to_vec(), (0..bytes).map(|_| random.bits() as u8).collect())
 }
 
+/// The reason of a claim, with an `at` and a buffer of these lengths, in which no two numbers are the same.
+pub fn reason(words: &[u32], at: usize, out: usize) -> Act {
+    Act::Reason(words.to_vec(), untouched(at + out).split_off(out), untouched(out))
+}
+
 /// An opening, and a call for each equation.
 pub fn entering(system: &System) -> Vec<Act> {
     [open(system.m, system.n as u32)].into_iter().chain(system.equations.iter().map(|equation| add(equation))).collect()
@@ -45,11 +50,13 @@ pub fn entering(system: &System) -> Vec<Act> {
 
 /// Why the reply is not that of a call which the reference answers so, where `before` is the ledger that it found.
 fn wrong_reply(act: &Act, reply: &Reply, said: &Said, before: &Ledger) -> Option<String> {
-    let old = if let Act::Answer(buffer) = act { buffer.clone() } else { vec![] };
+    let old = if let Act::Answer(buffer) | Act::Reason(_, _, buffer) = act { buffer.clone() } else { vec![] };
     let old_marks = if let Act::Class(_, marks) = act { marks.clone() } else { vec![] };
+    let old_at = if let Act::Reason(_, at, _) = act { at.clone() } else { vec![] };
     let expected = match (said, reply.outcome) {
         (Said::Answered(solved), outcome) => return wrong_answer(solved, outcome, &old, &reply.buffer, before),
         (Said::Classed(said), outcome) => return wrong_marks(said, outcome, &old_marks, &reply.marks),
+        (Said::Reasoned(_) | Said::SomeReason, _) => return wrong_reason(act, said, reply, before),
         (Said::Opened { .. }, _) => Outcome::Holds(0),
         (Said::Added(held) | Said::Struck(held), _) => Outcome::Holds(*held),
         (Said::Passed, _) => Outcome::Pass,
@@ -58,7 +65,7 @@ fn wrong_reply(act: &Act, reply: &Reply, said: &Said, before: &Ledger) -> Option
         (Said::PassedOrFailed, _) => Outcome::Fail,
         (Said::Refused(number), _) => Outcome::Refused(*number),
     };
-    let good = Reply { outcome: expected, buffer: old, marks: old_marks };
+    let good = Reply { outcome: expected, buffer: old, marks: old_marks, at: old_at };
     (*reply != good).then(|| format!("{reply:x?} is not {good:x?}"))
 }
 
@@ -90,6 +97,27 @@ fn wrong_marks(said: &[Said], outcome: Outcome, old: &[u8], marks: &[u8]) -> Opt
     Some(format!("claim {wrong} has the mark {}, where {:?} is right", marks[wrong], said[wrong]))
 }
 
+/// Why the reply to a call for a reason is wrong. Where all vectors cannot be tried, the reason is found by plugging in.
+fn wrong_reason(act: &Act, said: &Said, reply: &Reply, before: &Ledger) -> Option<String> {
+    let (Act::Reason(words, at, out), Ledger::Opened(system)) = (act, before) else { unreachable!("question 4") };
+    let vectors = ledger::vectors_in(system.n, words);
+    let reason = if let Said::Reasoned(reason) = said { *reason } else { shown::reason(system, &vectors) };
+    shown::wrong(system, &vectors, reason, at, out, reply)
+}
+
+/// Why a call for a reason does not go with the mark of the same claim on a sheet with these numbers: 0 exactly where it passes, and
+/// "the questions are those of marking", then 8.
+fn wrong_verdict(numbers: &[u32], words: &[u32], outcome: Outcome) -> Result<(), String> {
+    let mark = Desk::with(numbers).act(&Act::Mark(words.to_vec()))?.outcome;
+    let good = match (mark, outcome) {
+        (Outcome::Pass, Outcome::Reason(number)) => number == 0,
+        (Outcome::Fail, Outcome::Reason(number)) => number > 0,
+        (Outcome::Pass | Outcome::Fail, outcome) => outcome == Outcome::Refused(8),
+        (mark, outcome) => mark == outcome,
+    };
+    good.then_some(()).ok_or(format!("{outcome:?} for the reason of a claim that has the mark {mark:?}"))
+}
+
 /// "A byte per claim receives 0 fail, 1 pass or the refusal number plus 100."
 fn is_mark(said: &Said, mark: u8) -> bool {
     match said {
@@ -118,7 +146,7 @@ pub type Tally = BTreeSet<(&'static str, u32)>;
 
 /// "Questions, in order, and the number when the answer is no": every refusal that a direct call can give.
 pub fn all_refusals() -> Tally {
-    let refusals: [(&str, &[u32]); 7] = [
+    let refusals: [(&str, &[u32]); 8] = [
         ("open", &[1, 2, 3]),
         ("add", &[4, 1, 5]),
         ("add text", &[4, 11, 12, 13, 5]),
@@ -126,12 +154,13 @@ pub fn all_refusals() -> Tally {
         ("answer", &[4, 8]),
         ("mark", &[4, 1, 6]),
         ("class", &[4, 14, 8]),
+        ("reason", &[4, 1, 6, 8]),
     ];
     refusals.iter().flat_map(|(name, numbers)| numbers.iter().map(|&number| (*name, number))).collect()
 }
 
 /// Makes a call on a sheet that reads as this ledger, and in the ledger. It does what the reference says, or it is said why not; the
-/// claims of a class are marked singly too. A refusal goes to the tally.
+/// claims of a class are marked singly too, and a claim with a reason once more. A refusal goes to the tally.
 pub fn step(desk: &mut Desk, ledger: &mut Ledger, act: &Act, tally: &mut Tally) -> Result<Reply, String> {
     let call = match act {
         Act::Open(words) => Call::Open(words.clone()),
@@ -142,6 +171,7 @@ pub fn step(desk: &mut Desk, ledger: &mut Ledger, act: &Act, tally: &mut Tally) 
         Act::Mark(words) => Call::Mark(words.clone()),
         Act::MarkBlock => Call::Mark(desk.block().to_vec()),
         Act::Class(words, marks) => Call::Class(words.clone(), marks.len()),
+        Act::Reason(words, at, out) => Call::Reason(words.clone(), at.len(), out.len()),
     };
     let before = ledger.clone();
     let said = ledger.run(&call);
@@ -158,7 +188,25 @@ pub fn step(desk: &mut Desk, ledger: &mut Ledger, act: &Act, tally: &mut Tally) 
             return Err(format!("{:?} for a class whose claims get {singly:?} singly, ledger {before:?}", reply.marks));
         }
     }
+    if let Act::Reason(words, ..) = act {
+        wrong_verdict(desk.numbers(), words, reply.outcome)?;
+    }
     Ok(reply)
+}
+
+/// A desk with a sheet that holds these equations.
+pub fn entered(system: &System) -> Desk {
+    let mut desk = Desk::fresh();
+    for act in entering(system) {
+        assert!(matches!(desk.act(&act).unwrap().outcome, Outcome::Holds(_)), "{act:x?}");
+    }
+    desk
+}
+
+/// The reply to a call on a sheet that holds these equations, which does what the reference says.
+pub fn replied(desk: &mut Desk, system: &System, act: &Act, seed: u64) -> Reply {
+    let reply = step(desk, &mut Ledger::Opened(system.clone()), act, &mut Tally::new());
+    reply.unwrap_or_else(|why| panic!("{act:x?}: {why} (seed {seed})\n{system:?}"))
 }
 
 /// Every call of the list, the first of them on a fresh sheet, does what the reference says. The refusals go to the tally.
@@ -243,7 +291,7 @@ pub fn full_size_system(random: &mut Random, fits: bool) -> System {
 pub fn random_act(random: &mut Random, ledger: &Ledger, filling: bool) -> Act {
     let unopened = System { m: 7, n: 2, equations: vec![] };
     let system = if let Ledger::Opened(system) = ledger { system } else { &unopened };
-    let choice = random.below(if filling { 62 } else { 26 });
+    let choice = random.below(if filling { 66 } else { 30 });
     match choice {
         0 => Act::Open(exercises::opening(random)),
         1 if *ledger == Ledger::Unopened => Act::Open(exercises::opening(random)),
@@ -257,6 +305,11 @@ pub fn random_act(random: &mut Random, ledger: &Ledger, filling: bool) -> Act {
             let words = exercises::class(random, system);
             let bytes = marks_length(random, ledger::claims(system.n, &words).len());
             class(random, &words, bytes)
+        }
+        22..=25 => {
+            let words = exercises::claim(random, system);
+            let (at, out) = (places_length(random), shown_length(random, system, &words));
+            reason(&words, at, out)
         }
         _ if filling && chance(random, 3) => Act::AddText(spelling::text(random, system.n)),
         _ => Act::Add(exercises::equation(random, system)),
@@ -281,6 +334,28 @@ fn marks_length(random: &mut Random, claims: usize) -> usize {
         1 => random.below(70) as usize,
         2 => claims + 1 + random.below(4) as usize,
         _ => claims,
+    }
+}
+
+/// The three numbers that a reason writes to `at`, or fewer, or more.
+fn places_length(random: &mut Random) -> usize {
+    match random.below(6) {
+        0 => random.below(3) as usize,
+        1 => 3 + random.below(3) as usize,
+        _ => 3,
+    }
+}
+
+/// Exactly as long as the words of the claim's reason, one word shorter, somewhat longer, or any length.
+fn shown_length(random: &mut Random, system: &System, words: &[u32]) -> usize {
+    let claimed = Ledger::Opened(system.clone()).run(&Call::Mark(words.to_vec()));
+    let formed = !matches!(claimed, Said::Refused(_));
+    let exact = formed.then(|| ledger::reason_length(system, words)).flatten().unwrap_or(16);
+    match random.below(6) {
+        0 => exact.saturating_sub(1),
+        1 => random.below(20) as usize,
+        2 => exact + 1 + random.below(4) as usize,
+        _ => exact,
     }
 }
 

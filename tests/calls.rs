@@ -7,6 +7,7 @@ mod ledger;
 mod random;
 mod reference;
 mod sheet;
+mod shown;
 mod spelling;
 
 use acts::{add, all_refusals, answer, answered, entering, expect, full_size_system, last, mark, open, outcomes};

@@ -8,13 +8,14 @@ mod ledger;
 mod random;
 mod reference;
 mod sheet;
+mod shown;
 mod spelling;
 mod tape;
 
-use acts::{answer, answered, class, entering, full_size_system, random_solvable, random_unsolvable, step, Tally};
-use exercises::{chance, pick};
+use acts::{answer, answered, class, entered, full_size_system, random_solvable, random_unsolvable, replied};
+use exercises::{chance, pick, Flaw};
 use face::LONGEST_BLOCK;
-use ledger::{claim, word, Ledger, ENTRY, HEAD, LARGEST, MULTIPLIER};
+use ledger::{claim, word, ENTRY, HEAD, LARGEST, MULTIPLIER};
 use random::Random;
 use reference::{Answer, System};
 use sheet::{Act, Desk, Outcome, Reply};
@@ -33,12 +34,9 @@ struct Posed {
 
 impl Posed {
     fn new(system: System) -> Posed {
-        let (mut desk, n) = (Desk::fresh(), system.n);
-        for act in entering(&system) {
-            assert!(matches!(desk.act(&act).unwrap().outcome, Outcome::Holds(_)), "{act:x?}");
-        }
+        let mut desk = entered(&system);
         let block = answered(&desk.act(&answer(LONGEST_BLOCK)).unwrap());
-        let mut vectors = block[1..].chunks(n).map(|v| v.to_vec());
+        let mut vectors = block[1..].chunks(system.n).map(|v| v.to_vec());
         let answer = (block[0] > 0).then(|| Answer { start: vectors.next().unwrap(), steps: vectors.collect() });
         Posed { desk, system, answer }
     }
@@ -56,9 +54,7 @@ impl Posed {
 
     /// The class, which the reference and single marks confirm.
     fn class(&mut self, act: &Act, seed: u64) -> Reply {
-        let mut ledger = Ledger::Opened(self.system.clone());
-        let reply = step(&mut self.desk, &mut ledger, act, &mut Tally::new());
-        reply.unwrap_or_else(|why| panic!("{act:x?}: {why} (seed {seed})\n{:?}", self.system))
+        replied(&mut self.desk, &self.system, act, seed)
     }
 
     /// The marks of the class, which is not refused.
@@ -82,16 +78,8 @@ enum Kind {
     NoSolution,
     /// Any vectors.
     Any,
-    /// An entry is m or more.
-    NotBelow,
-    /// A word among the entries is of another kind.
-    Misfit,
-    /// A head above 17.
-    LargeHead,
-    /// A word of another kind where a head should stand.
-    Stray,
-    /// A claim that breaks off, which only the last one can.
-    Cut,
+    /// One that is refused, but none that is too long: in a class, what is too much is another claim.
+    Flawed(Flaw),
 }
 
 /// Those that stand anywhere in a class.
@@ -101,11 +89,14 @@ const WHOLE: [Kind; 9] = [
     Kind::Short,
     Kind::NoSolution,
     Kind::Any,
-    Kind::NotBelow,
-    Kind::Misfit,
-    Kind::LargeHead,
-    Kind::Stray,
+    Kind::Flawed(Flaw::NotBelow),
+    Kind::Flawed(Flaw::Misfit),
+    Kind::Flawed(Flaw::LargeHead),
+    Kind::Flawed(Flaw::Stray),
 ];
+
+/// A claim that breaks off, which only the last one can.
+const CUT: Kind = Kind::Flawed(Flaw::Cut);
 
 /// Vectors, one at least, most of them right.
 fn some_vectors(random: &mut Random, posed: &Posed) -> Vec<Vec<u32>> {
@@ -119,28 +110,22 @@ fn some_vectors(random: &mut Random, posed: &Posed) -> Vec<Vec<u32>> {
 fn handed_in(random: &mut Random, posed: &Posed, kind: Kind) -> Vec<u32> {
     let (m, n) = (posed.system.m, posed.system.n);
     let vectors = some_vectors(random, posed);
-    let mut words = claim(&vectors);
-    let place = 1 + random.below(words.len() as u64 - 1) as usize;
     match (kind, &posed.answer) {
-        (Kind::NoSolution, _) | (Kind::Right, None) => words = claim(&[]),
-        (Kind::Right, _) => {}
-        (Kind::Changed, _) => words = claim(&exercises::changed_claim(random, m, &vectors)),
+        (Kind::NoSolution, _) | (Kind::Right, None) => claim(&[]),
+        (Kind::Right, _) => claim(&vectors),
+        (Kind::Changed, _) => claim(&exercises::changed_claim(random, m, &vectors)),
         (Kind::Short, Some(answer)) if !answer.steps.is_empty() => {
             let mut fewer = ledger::vectors_of(answer);
             fewer.remove(1 + random.below(answer.steps.len() as u64) as usize);
-            words = claim(&fewer);
+            claim(&fewer)
         }
-        (Kind::Short | Kind::Any, _) => words = claim(&exercises::any_claim(random, m, n)),
-        (Kind::NotBelow, _) => words[place] = word(ENTRY, pick(random, &[m, m + 1, 65_536 + m, 1 << 27, LARGEST as u32])),
-        (Kind::Misfit, _) => {
-            let (other, number) = (ENTRY + 1 + random.below(15) as u32, pick(random, &[0, 1, m, LARGEST as u32]));
-            words[place] = word(other % 16, number);
+        (Kind::Short | Kind::Any, _) => claim(&exercises::any_claim(random, m, n)),
+        // no entries belong to a word that is no head or too large a one
+        (Kind::Flawed(flaw @ (Flaw::LargeHead | Flaw::Stray)), _) => {
+            vec![exercises::flawed(random, &posed.system, &vectors, flaw)[0]]
         }
-        (Kind::LargeHead, _) => words = vec![word(HEAD, pick(random, &[18, 19, 32, 256, 65_537, 1 << 27, LARGEST as u32]))],
-        (Kind::Stray, _) => words = vec![exercises::stray(random)],
-        (Kind::Cut, _) => words.truncate(place),
+        (Kind::Flawed(flaw), _) => exercises::flawed(random, &posed.system, &vectors, flaw),
     }
-    words
 }
 
 /// The byte of a claim of this kind, where it is known without a look at the equations.
@@ -149,8 +134,8 @@ fn certain(posed: &Posed, kind: Kind) -> Option<u8> {
         Kind::Right => Some(1),
         Kind::NoSolution => Some(posed.answer.is_none() as u8),
         Kind::Changed | Kind::Short | Kind::Any => None,
-        Kind::NotBelow => Some(106),
-        Kind::Misfit | Kind::LargeHead | Kind::Stray | Kind::Cut => Some(101),
+        Kind::Flawed(Flaw::NotBelow) => Some(106),
+        Kind::Flawed(_) => Some(101),
     }
 }
 
@@ -158,7 +143,7 @@ fn certain(posed: &Posed, kind: Kind) -> Option<u8> {
 fn handed_in_by_all(random: &mut Random, posed: &Posed, count: usize) -> Vec<(Kind, Vec<u32>)> {
     let mut class = vec![];
     for place in 0..count {
-        let kind = if place + 1 == count && chance(random, 3) { Kind::Cut } else { pick(random, &WHOLE) };
+        let kind = if place + 1 == count && chance(random, 3) { CUT } else { pick(random, &WHOLE) };
         class.push((kind, handed_in(random, posed, kind)));
     }
     class
@@ -190,8 +175,10 @@ fn random_classes_get_the_bytes_of_single_marks_in_their_order() {
             assert_eq!(byte, right, "{kind:?} {words:x?}, {:?} (seed {})", posed.system, random.seed);
             *seen.entry((*kind, byte)).or_insert(0) += 1;
             match kind {
-                Kind::Stray => drop(strays.insert(ledger::kind(words[0]))),
-                Kind::Misfit => misfits.extend(words[1..].iter().map(|&word| ledger::kind(word)).filter(|&kind| kind != ENTRY)),
+                Kind::Flawed(Flaw::Stray) => drop(strays.insert(ledger::kind(words[0]))),
+                Kind::Flawed(Flaw::Misfit) => {
+                    misfits.extend(words[1..].iter().map(|&word| ledger::kind(word)).filter(|&kind| kind != ENTRY))
+                }
                 _ => {}
             }
         }
@@ -204,11 +191,11 @@ fn random_classes_get_the_bytes_of_single_marks_in_their_order() {
         (Kind::NoSolution, 0),
         (Kind::NoSolution, 1),
         (Kind::Any, 0),
-        (Kind::NotBelow, 106),
-        (Kind::Misfit, 101),
-        (Kind::LargeHead, 101),
-        (Kind::Stray, 101),
-        (Kind::Cut, 101),
+        (Kind::Flawed(Flaw::NotBelow), 106),
+        (Kind::Flawed(Flaw::Misfit), 101),
+        (Kind::Flawed(Flaw::LargeHead), 101),
+        (Kind::Flawed(Flaw::Stray), 101),
+        (CUT, 101),
     ] {
         assert!(seen.get(&(kind, byte)).is_some_and(|&times| times > 150), "{kind:?} with {byte} among {seen:?}");
     }
@@ -380,7 +367,7 @@ fn a_class_is_cut_as_on_the_tape() {
         let count = 1 + random.below(10) as usize;
         let mut handed_in = handed_in_by_all(&mut random, &posed, count);
         // a stray word that begins no call on a tape
-        for (_, words) in handed_in.iter_mut().filter(|(kind, _)| *kind == Kind::Stray) {
+        for (_, words) in handed_in.iter_mut().filter(|(kind, _)| *kind == Kind::Flawed(Flaw::Stray)) {
             *words = vec![word(pick(&mut random, &[0, 2, 4, 6, 7, 11, 12, 13, 14, 15]), 1)];
         }
         let words = words_of(&handed_in);

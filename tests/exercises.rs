@@ -220,6 +220,48 @@ pub fn stray(random: &mut Random) -> u32 {
     ledger::word(kind, pick(random, &[0, 1, 2, 17, 18, (1 << 28) - 1]))
 }
 
+/// What a claim is refused for.
+#[derive(Clone, Copy, Debug, Eq, Ord, PartialEq, PartialOrd)]
+pub enum Flaw {
+    /// An entry is m or more.
+    NotBelow,
+    /// A word among the entries is of another kind.
+    Misfit,
+    /// A head above 17.
+    LargeHead,
+    /// A word of another kind where a head should stand.
+    Stray,
+    /// It breaks off.
+    Cut,
+    /// One word too many.
+    Long,
+}
+
+/// The words of a claim with this flaw and no other. It would be one of these vectors, one at least; where its head is too large, it
+/// is one of 18, and has the words for them.
+pub fn flawed(random: &mut Random, system: &System, vectors: &[Vec<u32>], flaw: Flaw) -> Vec<u32> {
+    let m = system.m;
+    let mut words = ledger::claim(vectors);
+    let place = 1 + random.below(words.len() as u64 - 1) as usize;
+    match flaw {
+        Flaw::NotBelow => {
+            words[place] = ledger::word(ledger::ENTRY, pick(random, &[m, m + 1, 65_536 + m, 1 << 27, LARGEST as u32]));
+        }
+        Flaw::Misfit => {
+            let other = (ledger::ENTRY + 1 + random.below(15) as u32) % 16;
+            words[place] = ledger::word(other, pick(random, &[0, 1, m, LARGEST as u32]));
+        }
+        Flaw::LargeHead => {
+            words = ledger::claim(&vec![vec![0; system.n]; 18]);
+            words[0] = ledger::word(ledger::HEAD, pick(random, &[18, 18, 19, 32, 256, 65_537, 1 << 27, LARGEST as u32]));
+        }
+        Flaw::Stray => words[0] = stray(random),
+        Flaw::Cut => words.truncate(place),
+        Flaw::Long => words.push(ledger::word(ledger::ENTRY, 0)),
+    }
+    words
+}
+
 /// The words as they are, or now and then spoiled.
 fn sometimes_spoiled(random: &mut Random, words: Vec<u32>, m: u32) -> Vec<u32> {
     if chance(random, 6) {

@@ -30,9 +30,13 @@ typedef char passes[MILEBADGER_MARK(1) == MILEBADGER_PASS && MILEBADGER_MARK(0) 
 typedef char shape[MILEBADGER_MARK(101) == MILEBADGER_REFUSED_SHAPE ? 1 : -1];
 typedef char number[MILEBADGER_MARK(106) == MILEBADGER_REFUSED_NUMBER ? 1 : -1];
 
-#if MILEBADGER_VERSION < 20100 || MILEBADGER_REFUSED_CLAIMS != -14
+#if MILEBADGER_VERSION < 20200 || MILEBADGER_REFUSED_CLAIMS != -14 || MILEBADGER_REASON_MISSED != 5
 #error "names that the preprocessor cannot read"
 #endif
+
+/* A vector for every unknown, and a multiplier for every equation, are shown whole. */
+typedef char shown[MILEBADGER_LONGEST_REASON >= MILEBADGER_MOST_UNKNOWNS ? 1 : -1];
+typedef char multiplied[MILEBADGER_LONGEST_REASON >= MILEBADGER_MOST_EQUATIONS ? 1 : -1];
 
 /* Words of numbers that are known only here: bytes, one after the other, and two that have a sign, which picks a word's kind. */
 int64_t run_later(const uint8_t *bytes, int i, int64_t l);
@@ -71,6 +75,30 @@ const char *class_later(const milebadger_sheet *sheet, const uint32_t *claims, s
     uint8_t marks[MILEBADGER_MOST_CLAIMS] = {0};
     int64_t result = milebadger_class(sheet, claims, count, marks, sizeof marks);
     return milebadger_sentence(result > 0 ? MILEBADGER_MARK(marks[0]) : result);
+}
+
+/* What a reason names, of a claim that is known only here. Each reason has a case of its own, and so has a claim that passes. */
+uint32_t reason_later(const milebadger_sheet *sheet, const uint32_t *claim, size_t count);
+
+uint32_t reason_later(const milebadger_sheet *sheet, const uint32_t *claim, size_t count)
+{
+    int64_t (*const call)(const milebadger_sheet *, const uint32_t *, size_t, uint32_t *, size_t, uint32_t *,
+                          size_t) = milebadger_reason;
+    uint32_t at[3] = {0}, out[MILEBADGER_LONGEST_REASON] = {0};
+    switch (call(sheet, claim, count, at, 3, out, MILEBADGER_LONGEST_REASON)) {
+    case 0:
+        return 0;
+    case MILEBADGER_REASON_SOLVABLE:
+    case MILEBADGER_REASON_UNSOLVABLE:
+    case MILEBADGER_REASON_MISSED:
+        return at[2] > 0 ? MILEBADGER_NUMBER(out[at[2] - 1]) : 0;
+    case MILEBADGER_REASON_START:
+        return at[1];
+    case MILEBADGER_REASON_STEP:
+        return at[0];
+    default:
+        return MILEBADGER_LARGEST_NUMBER;
+    }
 }
 
 /* The numbers of a congruence may have a sign, and need no cast. */

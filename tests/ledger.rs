@@ -121,7 +121,7 @@ fn is_claim(n: usize, words: &[u32]) -> bool {
 
 /// A call with its arguments other than the sheet. A typed equation has what its text says, if it says anything; a strike has its
 /// place, which is its word's number on tape; an answer has the length of its buffer, or its word on tape; a class has the number of
-/// its bytes too.
+/// its bytes too, and a reason the lengths of its `at` and its buffer.
 #[derive(Clone, Debug, PartialEq)]
 pub enum Call {
     Open(Vec<u32>),
@@ -131,6 +131,7 @@ pub enum Call {
     Answer(usize),
     Mark(Vec<u32>),
     Class(Vec<u32>, usize),
+    Reason(Vec<u32>, usize, usize),
     AnswerFromTape(u32),
     Meaningless(u32),
 }
@@ -145,6 +146,7 @@ impl Call {
             Call::Answer(_) => "answer",
             Call::Mark(_) => "mark",
             Call::Class(..) => "class",
+            Call::Reason(..) => "reason",
             Call::AnswerFromTape(_) => "answer from tape",
             Call::Meaningless(_) => "meaningless word",
         }
@@ -158,6 +160,43 @@ pub enum Solved {
     Nothing,
     /// There are too many vectors to try.
     Unknown,
+}
+
+/// Why a claim fails. "Steps and equations count from 1."
+#[derive(Clone, Copy, Debug, Eq, Ord, PartialEq, PartialOrd)]
+pub enum Reason {
+    /// "None was claimed but here is a solution."
+    Solvable,
+    /// "There is none, here are multipliers."
+    Unsolvable,
+    /// "The start breaks an equation, the first such."
+    Breaks { equation: usize },
+    /// "A step changes an equation's left side, giving the first step, and for it the first such equation."
+    Changes { step: usize, equation: usize },
+    /// "A solution that the claim does not describe."
+    Misses,
+}
+
+impl Reason {
+    /// Its number in that order, its step and its equation; 0 where it has none.
+    pub fn numbers(self) -> [u32; 3] {
+        match self {
+            Reason::Solvable => [1, 0, 0],
+            Reason::Unsolvable => [2, 0, 0],
+            Reason::Breaks { equation } => [3, 0, equation as u32],
+            Reason::Changes { step, equation } => [4, step as u32, equation as u32],
+            Reason::Misses => [5, 0, 0],
+        }
+    }
+
+    /// "It writes words of kinds 6 and 7 as the answer does": how many.
+    pub fn words(self, system: &System) -> usize {
+        match self {
+            Reason::Solvable | Reason::Misses => system.n,
+            Reason::Unsolvable => system.equations.len(),
+            Reason::Breaks { .. } | Reason::Changes { .. } => 0,
+        }
+    }
 }
 
 /// What a call says.
@@ -176,6 +215,10 @@ pub enum Said {
     PassedOrFailed,
     /// What marking each claim singly says.
     Classed(Vec<Said>),
+    /// Why the claim fails; none where it passes.
+    Reasoned(Option<Reason>),
+    /// There are too many vectors to try.
+    SomeReason,
     Refused(u32),
 }
 
@@ -257,11 +300,16 @@ impl Ledger {
                 let claims = claims(system.n, words);
                 Said::Classed(claims.into_iter().map(|claim| self.run(&Call::Mark(claim))).collect())
             }
+            (Call::Reason(words, ..), Ledger::Opened(system)) => match can_try(system.m, system.n) {
+                true => Said::Reasoned(reason(system, &vectors_in(system.n, words))),
+                false => Said::SomeReason,
+            },
             (Call::Meaningless(_), _) => unreachable!("refused with 1"),
         }
     }
 
-    /// The number of the question that turns the call away. The buffer of an answer that is unknown is taken to be long enough.
+    /// The number of the question that turns the call away. The buffer of an answer or a reason that is unknown is taken to be long
+    /// enough.
     fn refusal(&self, call: &Call) -> Option<u32> {
         let questions: &[u32] = match call {
             Call::Open(_) => &[1, 2, 3],
@@ -272,6 +320,7 @@ impl Ledger {
             Call::AnswerFromTape(_) => &[4, 1],
             Call::Mark(_) => &[4, 1, 6],
             Call::Class(..) => &[4, 14, 8],
+            Call::Reason(..) => &[4, 1, 6, 8],
             Call::Meaningless(_) => &[1],
         };
         questions.iter().copied().find(|&question| !self.yes(question, call))
@@ -297,10 +346,11 @@ impl Ledger {
             (1, Call::AnswerFromTape(word)) => number(*word) == 0,
             (7, Call::Strike(_)) => !system().equations.is_empty(),
             (8, Call::Answer(length)) => block_length(system()).is_none_or(|block| block <= *length),
-            (1, Call::Mark(words)) => is_claim(system().n, words),
-            (6, Call::Mark(words)) => words[1..].iter().all(|&w| number(w) < system().m),
+            (1, Call::Mark(words) | Call::Reason(words, ..)) => is_claim(system().n, words),
+            (6, Call::Mark(words) | Call::Reason(words, ..)) => words[1..].iter().all(|&w| number(w) < system().m),
             (14, Call::Class(words, _)) => claims(system().n, words).len() <= 64,
             (8, Call::Class(words, bytes)) => claims(system().n, words).len() <= *bytes,
+            (8, Call::Reason(words, at, out)) => *at >= 3 && reason_length(system(), words).is_none_or(|count| count <= *out),
             (1, Call::Meaningless(_)) => false,
             _ => unreachable!("{call:?} has no question {question}"),
         }
@@ -332,12 +382,55 @@ fn mark(system: &System, words: &[u32]) -> Said {
     if !can_try(system.m, system.n) {
         return Said::PassedOrFailed;
     }
-    let vectors: Vec<Vec<u32>> = numbers(&words[1..]).chunks(system.n).map(|v| v.to_vec()).collect();
-    if described(system.m, &vectors) == solutions(system) {
+    if described(system.m, &vectors_in(system.n, words)) == solutions(system) {
         Said::Passed
     } else {
         Said::Failed
     }
+}
+
+/// The vectors of a claim: a start and steps, or none.
+pub fn vectors_in(n: usize, words: &[u32]) -> Vec<Vec<u32>> {
+    numbers(&words[1..]).chunks(n).map(|v| v.to_vec()).collect()
+}
+
+/// "The tool gives the first of these that holds", by trying all vectors. "A passed claim gives no reason."
+pub fn reason(system: &System, vectors: &[Vec<u32>]) -> Option<Reason> {
+    let solutions = solutions(system);
+    if vectors.is_empty() {
+        return (!solutions.is_empty()).then_some(Reason::Solvable);
+    }
+    if solutions.is_empty() {
+        return Some(Reason::Unsolvable);
+    }
+    let described = described(system.m, vectors);
+    fault(system, vectors).or(solutions.iter().any(|v| !described.contains(v)).then_some(Reason::Misses))
+}
+
+/// The first equation that the start breaks; else the first step that changes a left side, and for it the first equation: behind the
+/// step it differs from what it was at the start, and not by a multiple of m.
+pub fn fault(system: &System, vectors: &[Vec<u32>]) -> Option<Reason> {
+    let (start, numbers) = (&vectors[0], 1..=system.equations.len());
+    if let Some(equation) = numbers.clone().find(|&equation| !system.only(equation).solved_by(start)) {
+        return Some(Reason::Breaks { equation });
+    }
+    for step in 1..vectors.len() {
+        let behind: Vec<u32> = start.iter().zip(&vectors[step]).map(|(&x, &y)| x + y).collect();
+        let changes = |equation: &usize| {
+            let line = &system.equations[equation - 1];
+            (reference::left(line, &behind) - reference::left(line, start)) % system.m as i128 != 0
+        };
+        if let Some(equation) = numbers.clone().find(changes) {
+            return Some(Reason::Changes { step, equation });
+        }
+    }
+    None
+}
+
+/// How many words the reason of a claim has, where it is known.
+pub fn reason_length(system: &System, words: &[u32]) -> Option<usize> {
+    let known = can_try(system.m, system.n);
+    known.then(|| reason(system, &vectors_in(system.n, words)).map_or(0, |reason| reason.words(system)))
 }
 
 /// Why a block of words is not the answer to the equations, if it is not.
@@ -367,4 +460,58 @@ pub fn wrong_vectors(system: &System, vectors: &[Vec<u32>]) -> Option<String> {
         }
     };
     (!good).then(|| format!("{vectors:?} is not the answer to {system:?}"))
+}
+
+/// Claims whose reasons were worked out by hand: m, n, the equations, the vectors; the reason's number, its step and its equation.
+pub const REASONED: [(u32, usize, &[&[i64]], &[&[u32]], [u32; 3]); 33] = [
+    // x + 2y = 0 mod 4
+    (4, 2, &[&[1, 2, 0]], &[], [1, 0, 0]),
+    (4, 2, &[&[1, 2, 0]], &[&[1, 0]], [3, 0, 1]),
+    (4, 2, &[&[1, 2, 0]], &[&[0, 0], &[1, 0]], [4, 1, 1]),
+    (4, 2, &[&[1, 2, 0]], &[&[0, 0], &[0, 2]], [5, 0, 0]),
+    (4, 2, &[&[1, 2, 0]], &[&[0, 0], &[2, 3]], [0, 0, 0]),
+    (4, 2, &[&[1, 2, 0]], &[&[0, 0]], [5, 0, 0]),
+    (4, 2, &[&[1, 2, 0]], &[&[2, 1], &[2, 1], &[0, 2]], [0, 0, 0]),
+    // a start that breaks it, before a step that changes it; two steps that do
+    (4, 2, &[&[1, 2, 0]], &[&[1, 0], &[1, 0]], [3, 0, 1]),
+    (4, 2, &[&[1, 2, 0]], &[&[0, 0], &[2, 3], &[0, 1], &[1, 0]], [4, 2, 1]),
+    // a step that itself solves -3x = 2 mod 4, which is x = 2, and changes the left side
+    (4, 1, &[&[-3, 2]], &[&[2], &[2]], [4, 1, 1]),
+    (4, 1, &[&[-3, 2]], &[&[2], &[0]], [0, 0, 0]),
+    // a sum of products that is a multiple of m, and not 0
+    (4, 2, &[&[7, -2, 0]], &[&[0, 0], &[2, 3]], [0, 0, 0]),
+    // 2x = 1 mod 4: before the start is looked at
+    (4, 2, &[&[2, 0, 1]], &[&[3, 3], &[1, 0]], [2, 0, 0]),
+    (4, 2, &[&[2, 0, 1]], &[&[0, 0]], [2, 0, 0]),
+    (4, 2, &[&[2, 0, 1]], &[], [0, 0, 0]),
+    (2, 2, &[&[1, 1, 1], &[1, 1, 0]], &[&[0, 1], &[1, 1]], [2, 0, 0]),
+    // the first such equation
+    (4, 2, &[&[1, 2, 0], &[2, 0, 0]], &[&[0, 0], &[2, 1], &[1, 0]], [4, 2, 1]),
+    (4, 2, &[&[2, 0, 0], &[1, 2, 0]], &[&[0, 0], &[2, 1], &[2, 0]], [4, 2, 2]),
+    (4, 2, &[&[2, 0, 0], &[0, 1, 0]], &[&[2, 1]], [3, 0, 2]),
+    (4, 2, &[&[2, 0, 0], &[0, 1, 0]], &[&[1, 1]], [3, 0, 1]),
+    // the second equation for the first step, and not the first one for the second
+    (4, 2, &[&[2, 0, 0], &[0, 1, 0]], &[&[0, 0], &[0, 1], &[1, 0]], [4, 1, 2]),
+    // an equation of zeros is broken by nothing, 0 = 1 by everything
+    (4, 2, &[&[0, 0, 0], &[1, 2, 0]], &[&[1, 0]], [3, 0, 2]),
+    (4, 2, &[&[0, 0, 1], &[1, 2, 0]], &[&[1, 0]], [2, 0, 0]),
+    (4, 2, &[&[0, 0, 1], &[1, 2, 0]], &[], [0, 0, 0]),
+    // no equations
+    (2, 1, &[], &[], [1, 0, 0]),
+    (2, 1, &[], &[&[1]], [5, 0, 0]),
+    (2, 1, &[], &[&[1], &[1]], [0, 0, 0]),
+    // 2x + 3y = 5 mod 12
+    (12, 2, &[&[2, 3, 5]], &[&[1, 1], &[0, 4]], [5, 0, 0]),
+    (12, 2, &[&[2, 3, 5]], &[&[1, 1], &[0, 4], &[3, 2]], [0, 0, 0]),
+    (12, 2, &[&[2, 3, 5]], &[&[1, 1], &[0, 4], &[3, 3]], [4, 2, 1]),
+    // -x = 1 mod 65,535
+    (65_535, 1, &[&[-1, 1]], &[&[65_534]], [0, 0, 0]),
+    (65_535, 1, &[&[-1, 1]], &[&[1]], [3, 0, 1]),
+    (65_535, 1, &[&[-1, 1]], &[&[65_534], &[0], &[1]], [4, 2, 1]),
+];
+
+/// A row of that table as equations and vectors.
+pub fn posed(m: u32, n: usize, equations: &[&[i64]], vectors: &[&[u32]]) -> (System, Vec<Vec<u32>>) {
+    let system = System { m, n, equations: equations.iter().map(|equation| equation.to_vec()).collect() };
+    (system, vectors.iter().map(|v| v.to_vec()).collect())
 }

@@ -7,7 +7,7 @@ mod reference;
 mod sheet;
 mod tape;
 
-use ledger::{equation, opening, word, ANSWER, ENTRY, HEAD};
+use ledger::{equation, opening, word, Reason, ANSWER, ENTRY, HEAD};
 use sheet::{Act, Desk, Outcome, Sheet};
 
 const HEADER: &str = include_str!("../include/milebadger.h");
@@ -38,7 +38,7 @@ fn lines(words: &[u32]) -> String {
 #[test]
 fn the_archive_has_the_version_of_the_header() {
     assert_eq!(face::version() as usize, limit("VERSION"));
-    assert_eq!(face::version(), 20_100, "2.1.0");
+    assert_eq!(face::version(), 20_200, "2.2.0");
 }
 
 #[test]
@@ -74,6 +74,43 @@ fn a_class_has_as_many_claims_as_the_header_says() {
     assert_eq!(outcome(Act::Class(vec![word(HEAD, 0); most], vec![0xC0; most - 1])), Outcome::Refused(8));
     assert_eq!(outcome(Act::Class(vec![word(HEAD, 0); most], vec![0xC0; most])), Outcome::Marked(most));
     assert_eq!(outcome(Act::Class(vec![word(HEAD, 0); most + 1], vec![0xC0; most + 1])), Outcome::Refused(14));
+}
+
+#[test]
+fn a_reason_shows_as_many_words_as_the_header_says() {
+    let (most, longest) = (limit("MOST_UNKNOWNS"), limit("LONGEST_REASON"));
+    // none is claimed, or one vector of the many; or 0 = 1 stands there as often as it can
+    for (n, k, vectors, number) in [
+        (most, 0, vec![], limit("REASON_SOLVABLE")),
+        (most, 0, vec![vec![0; most]], limit("REASON_MISSED")),
+        (1, limit("MOST_EQUATIONS"), vec![vec![0]], limit("REASON_UNSOLVABLE")),
+    ] {
+        let mut desk = Desk::fresh();
+        let mut outcome = |act: Act| desk.act(&act).unwrap().outcome;
+        assert_eq!(outcome(Act::Open(opening(2, n as u32))), Outcome::Holds(0));
+        for held in 1..=k {
+            assert_eq!(outcome(Act::Add(equation(&[vec![0; n], vec![1]].concat()))), Outcome::Holds(held));
+        }
+        for (room, expected) in [(longest - 1, Outcome::Refused(8)), (longest, Outcome::Reason(number as u32))] {
+            let act = Act::Reason(ledger::claim(&vectors), face::untouched(3), face::untouched(room));
+            assert_eq!(outcome(act), expected, "{n} unknowns, {k} equations, {room} words");
+        }
+    }
+}
+
+#[test]
+fn the_header_has_the_reasons_in_the_order_of_the_paper() {
+    let names = ["SOLVABLE", "UNSOLVABLE", "START", "STEP", "MISSED"];
+    let reasons = [
+        Reason::Solvable,
+        Reason::Unsolvable,
+        Reason::Breaks { equation: 1 },
+        Reason::Changes { step: 1, equation: 1 },
+        Reason::Misses,
+    ];
+    for (name, reason) in names.iter().zip(reasons) {
+        assert_eq!(limit(&format!("REASON_{name}")) as u32, reason.numbers()[0], "{name}");
+    }
 }
 
 #[test]

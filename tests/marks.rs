@@ -7,6 +7,7 @@ mod ledger;
 mod random;
 mod reference;
 mod sheet;
+mod shown;
 mod spelling;
 
 use acts::{add, answer, answered, entering, expect, full_size_system, last, mark, open, outcomes};

@@ -6,7 +6,7 @@ mod reference;
 mod tape;
 
 use grammar::{Tree, Typed, ADDED, OUTSIDE, REFUSED};
-use ledger::{Call, Ledger, Said, Solved, LARGEST};
+use ledger::{Call, Ledger, Reason, Said, Solved, LARGEST, REASONED};
 use reference::{Answer, Congruence, System};
 use std::rc::Rc;
 use tape::{PAPER_LINES, PAPER_TAPE, SIGNED};
@@ -73,6 +73,42 @@ fn a_class_is_as_the_request_says() {
     for call in [Call::Class(vec![], 0), Call::Class(vec![head(0); 65], 0)] {
         assert_eq!(Ledger::Unopened.run(&call), Said::Refused(4));
     }
+}
+
+/// "The reason beside a failed mark": the first that holds, where it passes, and when it is turned away.
+#[test]
+fn a_reason_is_as_the_request_says() {
+    for (m, n, equations, vectors, expected) in REASONED {
+        let (system, vectors) = ledger::posed(m, n, equations, vectors);
+        let found = ledger::reason(&system, &vectors);
+        assert_eq!(found.map_or([0; 3], Reason::numbers), expected, "{system:?}: {vectors:?}");
+        // "a passed claim gives no reason", and each failed one does
+        let passes = ledger::described(m, &vectors) == ledger::solutions(&system);
+        assert_eq!(found.is_none(), passes, "{system:?}: {vectors:?}");
+    }
+    let [none, start, number, short] = [vec![], vec![vec![1, 0]], vec![vec![4, 0]], vec![vec![1]]].map(|v| ledger::claim(&v));
+    let right = ledger::claim(&[vec![0, 0], vec![2, 3]]);
+    let mut sheet = opened(4, 2, &[&[1, 2, 0]]);
+    for (words, at, out, said) in [
+        (&none, 3, 2, Said::Reasoned(Some(Reason::Solvable))),
+        (&none, 3, 1, Said::Refused(8)),
+        (&none, 2, 2, Said::Refused(8)),
+        (&start, 3, 0, Said::Reasoned(Some(Reason::Breaks { equation: 1 }))),
+        (&start, 2, 16, Said::Refused(8)),
+        (&right, 3, 0, Said::Reasoned(None)),
+        (&right, 2, 0, Said::Refused(8)),
+        (&number, 0, 0, Said::Refused(6)),
+        (&short, 0, 0, Said::Refused(1)),
+    ] {
+        assert_eq!(sheet.run(&Call::Reason(words.clone(), at, out)), said, "{words:x?}, {at}, {out}");
+        assert_eq!(Ledger::Unopened.run(&Call::Reason(words.clone(), at, out)), Said::Refused(4), "{words:x?}, {at}, {out}");
+    }
+    // two equations have two multipliers
+    let mut sheet = opened(2, 3, &[&[1, 1, 0, 1], &[1, 1, 0, 0]]);
+    let zeros = ledger::claim(&[vec![0; 3]]);
+    assert_eq!(sheet.run(&Call::Reason(zeros.clone(), 3, 2)), Said::Reasoned(Some(Reason::Unsolvable)));
+    assert_eq!(sheet.run(&Call::Reason(zeros, 3, 1)), Said::Refused(8));
+    assert_eq!(sheet.run(&Call::Reason(none, 3, 0)), Said::Reasoned(None));
 }
 
 #[test]

@@ -115,10 +115,12 @@ impl System {
     /// "A vector solves an equation if the sum of coefficient times entry leaves the right side mod m": their difference, a whole
     /// number, is a multiple of m.
     pub fn solved_by(&self, vector: &[u32]) -> bool {
-        self.equations.iter().all(|equation| {
-            let sum: i128 = vector.iter().zip(equation).map(|(&x, &a)| x as i128 * a as i128).sum();
-            (sum - equation[self.n] as i128) % self.m as i128 == 0
-        })
+        self.equations.iter().all(|equation| (left(equation, vector) - equation[self.n] as i128) % self.m as i128 == 0)
+    }
+
+    /// The equation with this number, "from 1", alone.
+    pub fn only(&self, number: usize) -> System {
+        System { equations: vec![self.equations[number - 1].clone()], ..self.clone() }
     }
 
     /// "Multipliers, one residue for each equation, such that the equations so multiplied add up mod m to zero coefficients and a
@@ -133,6 +135,11 @@ impl System {
             && (0..self.n).all(is_multiple)
             && !is_multiple(self.n)
     }
+}
+
+/// The left side of an equation: the sum of coefficient times entry, a whole number.
+pub fn left(equation: &[i64], vector: &[u32]) -> i128 {
+    vector.iter().zip(equation).map(|(&x, &a)| x as i128 * a as i128).sum()
 }
 
 /// The vectors of n residues in dictionary order.

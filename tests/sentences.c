@@ -1,5 +1,5 @@
 /* milebadger_sentence: every refusal has a sentence of its own, also where a byte of a class stands for it, every other result one of
- * two. */
+ * two. A reason for a failed mark is no refusal. */
 #include <stdio.h>
 #include <string.h>
 
@@ -20,6 +20,10 @@ int main(void)
         MILEBADGER_REFUSED_NOT_LINEAR, MILEBADGER_REFUSED_CLAIMS,
     };
     const int64_t made[] = {MILEBADGER_FAIL, MILEBADGER_PASS, 16, INT64_MAX}, none[] = {-15, -16, INT64_MIN};
+    const int64_t reasons[] = {
+        MILEBADGER_REASON_SOLVABLE, MILEBADGER_REASON_UNSOLVABLE, MILEBADGER_REASON_START, MILEBADGER_REASON_STEP,
+        MILEBADGER_REASON_MISSED,
+    };
     const char *sentence[14];
 
     for (int i = 0; i < 14; i++) {
@@ -33,6 +37,9 @@ int main(void)
     for (int i = 0; i < 4; i++)
         if (strcmp(milebadger_sentence(made[i]), "done") != 0)
             return fault(made[i], milebadger_sentence(made[i]));
+    for (int i = 0; i < 5; i++)
+        if (reasons[i] != i + 1 || strcmp(milebadger_sentence(reasons[i]), "done") != 0)
+            return fault(reasons[i], "no reason, or in another place");
     for (uint8_t byte = MILEBADGER_FAIL; byte <= MILEBADGER_PASS; byte++)
         if (MILEBADGER_MARK(byte) != byte)
             return fault(MILEBADGER_MARK(byte), "a mark of another byte");

@@ -1,11 +1,12 @@
 """The package's shared library, called from Python: a fresh sheet, each call on it, refusals that keep every byte, numbers with a
-sign, the version.
+sign, threads that share a sheet, the version.
 
 usage: tests/shared.py LIBRARY HEADER
 """
 import ctypes
 import re
 import sys
+import threading
 
 Words = ctypes.POINTER(ctypes.c_uint32)
 
@@ -24,6 +25,7 @@ for name, arguments in {
     "answer": [ctypes.POINTER(Sheet), Words, ctypes.c_size_t],
     "mark": [ctypes.POINTER(Sheet), Words, ctypes.c_size_t],
     "class": [ctypes.POINTER(Sheet), Words, ctypes.c_size_t, ctypes.POINTER(ctypes.c_uint8), ctypes.c_size_t],
+    "reason": [ctypes.POINTER(Sheet), Words, ctypes.c_size_t, Words, ctypes.c_size_t, Words, ctypes.c_size_t],
 }.items():
     function = getattr(library, "milebadger_" + name)
     function.argtypes = arguments
@@ -85,6 +87,7 @@ refused(-4, "answer", out, 273)
 refused(-4, "strike", 0)
 refused(-4, "add_text", *text(b"x1 = 0"))
 refused(-4, "class", words((HEAD, 0)), 1, (ctypes.c_uint8 * 1)(0xC0), 1)
+refused(-4, "reason", words((HEAD, 0)), 1, (ctypes.c_uint32 * 3)(7, 7, 7), 3, out, 273)
 refused(-2, "open", words((MODULUS, 65536), (UNKNOWNS, 2)), 2)
 same(lend("open", words((MODULUS, 4), (UNKNOWNS, 2))), 0)
 refused(-7, "strike", 0)
@@ -118,6 +121,48 @@ refused(-14, "class", words(*[(HEAD, 0)] * 65), 65, marks, 8)
 same(call("class", words(), 0, marks, 0), 0)
 same(marks[:], [1, 0, 106, 101, 0, 101, 0xC0, 0xC0])
 
+
+def reason(*numbers):
+    """The number of this claim's reason, its step, its equation, and the kinds and numbers of its words. Nothing else is written."""
+    claim, at, shown = block(*numbers), (ctypes.c_uint32 * 4)(*[7] * 4), (ctypes.c_uint32 * 17)(*[0xC0DE] * 17)
+    result = call("reason", claim, len(claim), at, 4, shown, 17)
+    same((at[3], shown[at[2] :]), (7, [0xC0DE] * (17 - at[2])))
+    return result, at[0], at[1], [(word >> 28, word & 0xFFFFFFF) for word in shown[: at[2]]]
+
+
+# Why claims about the sheet fail, and a claim that passes. From 0 0 the step 0 2 leads to two of four solutions.
+same(reason(0), (1, 0, 0, [(ENTRY, 0), (ENTRY, 0)]))
+same(reason(1, 1, 0), (3, 0, 1, []))
+same(reason(3, 0, 0, 2, 1, 1, 0), (4, 2, 1, []))
+same(reason(2, 0, 0, 2, 3), (0, 0, 0, []))
+missed = reason(2, 0, 0, 0, 2)
+same((missed[:3], missed[3] in ([(ENTRY, 2), (ENTRY, 1)], [(ENTRY, 2), (ENTRY, 3)])), ((5, 0, 0), True))
+at, shown = (ctypes.c_uint32 * 3)(7, 7, 7), (ctypes.c_uint32 * 2)(8, 8)
+refused(-1, "reason", block(1, 0), 2, at, 3, shown, 2)
+refused(-6, "reason", block(1, 0, 4), 3, at, 3, shown, 2)
+refused(-8, "reason", block(0), 1, at, 3, shown, 1)
+refused(-8, "reason", block(2, 0, 0, 2, 3), 5, at, 2, shown, 2)
+same(call("reason", block(1, 1, 0), 3, at, 3, shown, 0), 3)
+same((at[:], shown[:]), ([0, 1, 0], [8, 8]))
+
+# Threads that ask for reasons on one sheet at the same time, each with memory of its own.
+asked = [(0,), (1, 1, 0), (3, 0, 0, 2, 1, 1, 0), (2, 0, 0, 0, 2), (2, 0, 0, 2, 3)]
+expected, before, seen = [reason(*numbers) for numbers in asked], bytes(sheet), []
+
+
+def ask(own):
+    for turn in range(400):
+        place = (own + turn) % len(asked)
+        seen.append(reason(*asked[place]) == expected[place])
+
+
+threads = [threading.Thread(target=ask, args=(own,)) for own in range(4)]
+for thread in threads:
+    thread.start()
+for thread in threads:
+    thread.join()
+same((len(seen), all(seen), bytes(sheet)), (1600, True, before))
+
 # The same equation once more: mod 4, -3 is 1, 268,435,454 is 2, and -8 is 0. So the sheet is that of the residues.
 plain = Sheet.from_buffer_copy(sheet)
 same(lend("add", equation(-3, 268435454, -8)), 2)
@@ -137,6 +182,11 @@ same((out[0], out[1] >> 28, out[2] >> 28), (HEAD << 28, MULTIPLIER, MULTIPLIER))
 c, d = (word & 0xFFFFFFF for word in out[1:3])
 same(((c + 2 * d) % 4, 2 * c % 4, d % 4 == 0), (0, 0, False))
 same(lend("mark", words((HEAD, 0))), 1)
+same(reason(0), (0, 0, 0, []))
+number, step, place, multipliers = reason(1, 0, 0)
+same((number, step, place, [kind for kind, _ in multipliers]), (2, 0, 0, [MULTIPLIER, MULTIPLIER]))
+c, d = (number for _, number in multipliers)
+same(((c + 2 * d) % 4, 2 * c % 4, d % 4 == 0), (0, 0, False))
 same(call("strike", 0), 1)
 same(lend("mark", words((HEAD, 0))), 0)
 sheet = first

@@ -1,5 +1,5 @@
-//! The calls on a sheet as Rust sees them. The sheet, the words, the text, the buffer and the marks lie in memory with a guard on
-//! both sides, and after each call everything that it may not write is compared with what it was.
+//! The calls on a sheet as Rust sees them. The sheet, the words, the text, the buffer, the marks and the `at` of a reason lie in
+//! memory with a guard on both sides, and after each call everything that it may not write is compared with what it was.
 #![allow(dead_code)]
 
 use crate::face::{GUARD, GUARDS};
@@ -21,6 +21,15 @@ extern "C" {
     fn milebadger_answer(sheet: *const Sheet, out: *mut u32, out_len: usize) -> i64;
     fn milebadger_mark(sheet: *const Sheet, words: *const u32, words_len: usize) -> i64;
     fn milebadger_class(sheet: *const Sheet, words: *const u32, words_len: usize, marks: *mut u8, marks_len: usize) -> i64;
+    fn milebadger_reason(
+        sheet: *const Sheet,
+        words: *const u32,
+        words_len: usize,
+        at: *mut u32,
+        at_len: usize,
+        out: *mut u32,
+        out_len: usize,
+    ) -> i64;
 }
 
 /// A call on the sheet with its arguments.
@@ -38,6 +47,8 @@ pub enum Act {
     MarkBlock,
     /// The words of all claims, into bytes with this content.
     Class(Vec<u32>, Vec<u8>),
+    /// The words of a claim, with this content of the header's `at`, and into a buffer with this one.
+    Reason(Vec<u32>, Vec<u32>, Vec<u32>),
 }
 
 impl Act {
@@ -56,14 +67,17 @@ pub enum Outcome {
     Fail,
     /// So many claims of a class.
     Marked(usize),
+    /// A reason's number, or 0 for a claim that passes.
+    Reason(u32),
 }
 
-/// An outcome, the whole buffer after an answer, and all bytes after a class.
+/// An outcome, the whole buffer after an answer or a reason, all bytes after a class, and all numbers of `at` after a reason.
 #[derive(Clone, Debug, PartialEq)]
 pub struct Reply {
     pub outcome: Outcome,
     pub buffer: Vec<u32>,
     pub marks: Vec<u8>,
+    pub at: Vec<u32>,
 }
 
 /// What the result says, where the call may have it at all.
@@ -76,6 +90,7 @@ fn read(act: &Act, result: i64) -> Option<Outcome> {
         (Act::Mark(_) | Act::MarkBlock, 1) => Some(Outcome::Pass),
         (Act::Mark(_) | Act::MarkBlock, 0) => Some(Outcome::Fail),
         (Act::Class(_, marks), 0..) if result <= marks.len() as i64 => Some(Outcome::Marked(result as usize)),
+        (Act::Reason(..), 0..=5) => Some(Outcome::Reason(result as u32)),
         _ => None,
     }
 }
@@ -92,9 +107,17 @@ impl Lent<u32> {
         Lent::new(GUARD, numbers)
     }
 
-    /// Beside the claims of a class there are entries, with which the last one would be whole where it breaks off.
+    /// Beside the claims of a class, or one claim, there are entries, with which the last one would be whole where it breaks off.
     fn claims(words: &[u32]) -> Lent<u32> {
         Lent::new(6 << 28, words)
+    }
+
+    /// A reason's `at` and its buffer.
+    fn shown(act: &Act) -> [Lent<u32>; 2] {
+        match act {
+            Act::Reason(_, at, out) => [Lent::numbers(at), Lent::numbers(out)],
+            _ => [Lent::numbers(&[]), Lent::numbers(&[])],
+        }
     }
 }
 
@@ -160,14 +183,14 @@ impl Desk {
         let before = self.sheet.clone();
         let mut lent = match act {
             Act::Open(words) | Act::Add(words) | Act::Mark(words) | Act::Answer(words) => Lent::numbers(words),
-            Act::Class(words, _) => Lent::claims(words),
+            Act::Class(words, _) | Act::Reason(words, ..) => Lent::claims(words),
             Act::AddText(_) | Act::Strike(_) => Lent::numbers(&[]),
             Act::MarkBlock => std::mem::replace(&mut self.buffer, Lent::numbers(&[])),
         };
-        let mut bytes = Lent::bytes(act);
-        let (old, old_bytes) = (lent.clone(), bytes.clone());
+        let (mut bytes, [mut at, mut out]) = (Lent::bytes(act), Lent::shown(act));
+        let (old, old_bytes, old_shown) = (lent.clone(), bytes.clone(), [at.clone(), out.clone()]);
         let len = if *act == Act::MarkBlock { self.wrote } else { old.own().len() };
-        let result = call(act, self.sheet.start() as *mut Sheet, lent.start(), len, bytes.start());
+        let result = call(act, self.sheet.start() as *mut Sheet, lent.start(), len, bytes.start(), at.start(), out.start());
         let outcome = read(act, result).ok_or(format!("no call has the result {result}"))?;
         let refused = matches!(outcome, Outcome::Refused(_));
         let (answers, marks) = (matches!(act, Act::Answer(_)), matches!(act, Act::Class(..)));
@@ -178,23 +201,27 @@ impl Desk {
             ("the words or the buffer were written", lent != old && (refused || !answers)),
             ("written beside the text or the marks", !bytes.guarded()),
             ("the text or the marks were written", bytes != old_bytes && (refused || !marks)),
+            ("written beside `at` or the words of a reason", !at.guarded() || !out.guarded()),
+            ("`at` or the words of a reason were written", [&at, &out] != old_shown.each_ref() && refused),
         ];
         if let Some((fault, _)) = faults.iter().find(|(_, found)| *found) {
             return Err(format!("{fault} at {outcome:?}"));
         }
-        let buffer = if answers { lent.own().to_vec() } else { vec![] };
+        let buffer = if answers { lent.own().to_vec() } else { out.own().to_vec() };
         let marks = if marks { bytes.own().to_vec() } else { vec![] };
+        let at = at.own().to_vec();
         match (act, outcome) {
             (Act::Answer(_), Outcome::Wrote(length)) => (self.buffer, self.wrote) = (lent, length),
             (Act::MarkBlock, _) => self.buffer = lent,
             _ => {}
         }
-        Ok(Reply { outcome, buffer, marks })
+        Ok(Reply { outcome, buffer, marks, at })
     }
 }
 
-/// The call itself, with words or a buffer of this length at `memory`, and its text or its marks at `bytes`.
-fn call(act: &Act, sheet: *mut Sheet, memory: *mut u32, len: usize, bytes: *mut u8) -> i64 {
+/// The call itself, with words or a buffer of this length at `memory`, its text or its marks at `bytes`, and what a reason writes at
+/// `at` and `out`.
+fn call(act: &Act, sheet: *mut Sheet, memory: *mut u32, len: usize, bytes: *mut u8, at: *mut u32, out: *mut u32) -> i64 {
     unsafe {
         match act {
             Act::Open(_) => milebadger_open(sheet, memory, len),
@@ -204,6 +231,7 @@ fn call(act: &Act, sheet: *mut Sheet, memory: *mut u32, len: usize, bytes: *mut 
             Act::Answer(_) => milebadger_answer(sheet, memory, len),
             Act::Mark(_) | Act::MarkBlock => milebadger_mark(sheet, memory, len),
             Act::Class(_, marks) => milebadger_class(sheet, memory, len, bytes, marks.len()),
+            Act::Reason(_, old_at, old_out) => milebadger_reason(sheet, memory, len, at, old_at.len(), out, old_out.len()),
         }
     }
 }

@@ -8,9 +8,10 @@ mod ledger;
 mod random;
 mod reference;
 mod sheet;
+mod shown;
 mod spelling;
 
-use acts::{add, add_text, all_refusals, answer, class, entering, mark, open, random_act, random_system, step};
+use acts::{add, add_text, all_refusals, answer, class, entering, mark, open, random_act, random_system, reason, step};
 use acts::{Tally, WRONG_PLACES};
 use exercises::{chance, pick};
 use face::LONGEST_BLOCK;
@@ -77,7 +78,7 @@ fn after(numbers: &[u32], act: &Act, outcome: Outcome) -> Vec<u32> {
             enter(&mut numbers, line);
         }
         (Act::Strike(_), _) => numbers[HELD] -= 1,
-        (Act::Answer(_) | Act::Mark(_) | Act::MarkBlock | Act::Class(..), _) => {}
+        (Act::Answer(_) | Act::Mark(_) | Act::MarkBlock | Act::Class(..) | Act::Reason(..), _) => {}
     }
     numbers
 }
@@ -102,6 +103,7 @@ fn expect_each(random: &mut Random, numbers: &[u32], tally: &mut Tally) {
     let (ones, plus) = (vec![1; system.n], vec![1; system.n]);
     let minus = vec![-(system.m as i64) - 1; system.n];
     let (claims, stray) = (exercises::class(random, &system), [exercises::stray(random)]);
+    let (one, some) = (ledger::claim(&[ones.clone()]), exercises::claim(random, &system));
     for act in [
         open(5, 3),
         open(1, 1),
@@ -129,6 +131,16 @@ fn expect_each(random: &mut Random, numbers: &[u32], tally: &mut Tally) {
         class(random, &stray.repeat(64), 64),
         class(random, &stray.repeat(64), 63),
         class(random, &stray.repeat(65), 63),
+        reason(&[], 3, 16),
+        reason(&ledger::claim(&[]), 3, 16),
+        reason(&ledger::claim(&[]), 3, 0),
+        reason(&ledger::claim(&[]), 2, 16),
+        reason(&one, 4, 17),
+        reason(&one, 3, 0),
+        reason(&one, 0, 0),
+        reason(&ledger::claim(&vec![vec![system.m; system.n]; 2]), 3, 16),
+        reason(&ledger::claim(&vec![vec![0; system.n]; 18]), 3, 16),
+        reason(&some, 3, 16),
     ] {
         expect(&mut Desk::with(numbers), &act, random.seed, tally);
     }
@@ -214,7 +226,10 @@ fn zeroed_memory_is_an_unopened_sheet() {
         // more claims than may be, and fewer bytes than claims
         Act::Class(ledger::claim(&[]).repeat(count), marks(count / 2))
     }));
-    let others = [0, 1, 2, LONGEST_BLOCK].map(answer).into_iter().chain([Act::MarkBlock]).chain(classes);
+    // nor are the shape and the entries of a claim asked about, nor the lengths of what a reason would write
+    let lengths = [(0, 0), (2, 16), (3, 0), (3, 16), (4, 17)];
+    let reasons = words.iter().flat_map(|words| lengths.map(|(at, out)| reason(words, at, out)));
+    let others = [0, 1, 2, LONGEST_BLOCK].map(answer).into_iter().chain([Act::MarkBlock]).chain(classes).chain(reasons);
     for act in acts.chain(texts).chain(strikes).chain(others) {
         let mut desk = Desk::fresh();
         assert_eq!(expect(&mut desk, &act, 0, &mut tally), Outcome::Refused(4), "{act:x?}");

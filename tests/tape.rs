@@ -83,7 +83,7 @@ pub fn lines(said: &Said) -> Option<String> {
         Said::Failed => line("fail", &[]),
         Said::Refused(number) => line("refused", &[*number]),
         Said::Answered(Solved::Nothing | Solved::Unknown) | Said::PassedOrFailed => return None,
-        Said::Classed(_) => unreachable!("no call on tape"),
+        Said::Classed(_) | Said::Reasoned(_) | Said::SomeReason => unreachable!("no call on tape"),
     })
 }
 

@@ -8,6 +8,7 @@ mod ledger;
 mod random;
 mod reference;
 mod sheet;
+mod shown;
 mod spelling;
 
 use acts::{add, add_text, answer, open, step, Tally};

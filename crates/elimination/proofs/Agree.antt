@@ -1,6 +1,7 @@
 -- The pivots agree exactly where the span of the steps is the set of solutions with right sides 0.
 --   Agree                          at each place the two pivots multiply to m
 --   agree-of-test, test-of-agree   the test says so
+--   product-of-head                they do at a place where the two heads are the same
 --   kernel-span                    where they agree, solutions with right sides 0 are in the span
 --   agree-of-same                  they agree where the two sets have the same lines of n entries
 use mathlib.Core.Path.{_≡_, sym, ap, ap₂, _∙_, subst}
@@ -72,7 +73,7 @@ module _ (m n k : ℕ) (es : List Equation) (cs : List (List ℕ)) (pos : 0 < m)
         eq-of-mul-eq-mul-left (row .d) (factor-positive m (row .d) (row .e) (row .factor) pos) (row .e) (pivot j C)
         (sym (row .factor) ∙ sym h ∙ ap (λ (z : ℕ). pivot j C * z) (row .pivot-is) ∙ mul-comm (pivot j C) (row .d))
 
-    product-of-head : pivot j C ≡ row .e → pivot j C * pivot i B ≡ m
+    pub product-of-head : pivot j (basis m n 0 cs) ≡ row .e → pivot j (basis m n 0 cs) * pivot i (tableau m n k es) ≡ m
     product-of-head h = ap₂ _*_ h (row .pivot-is) ∙ mul-comm (row .e) (row .d) ∙ sym (row .factor)
 
     kernel-head-agreed : pivot j C * pivot i B ≡ m → Head (Kernel m es) j i (pivot j C)

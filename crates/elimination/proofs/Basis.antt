@@ -1,5 +1,6 @@
 -- A basis that is built from a list of lines, from the empty one on.
 --   All, Long, Zeros           of every line of a list: it is in a set; has w entries; is 0 at X
+--   long-vectors               vectors of n residues have n entries
 --   length-basis, good-basis   its form and its closure
 --   sat-basis                  where the lines are 0, so is the basis: for X of any length
 --   zeros-basis                and back, for X of w entries
@@ -10,8 +11,10 @@ use native.Mathlib.Omega.{arith}
 use lib.ListN.{length, length-replicate}
 use Rattle.residue.specs.Congruent.{Congruent}
 use Rattle.residue.proofs.Congruent.{congruent-of, congruent-of-eq}
+use Rattle.equations.specs.Vectors.{AllVectors}
 use Rattle.equations.specs.Equation.{dot}
 use Rattle.equations.proofs.Dot.{dot-zeros}
+use Rattle.equations.proofs.Vectors.{vector-length}
 use Rattle.elimination.specs.Basis.{insert, inserts, empty, basis}
 use Rattle.elimination.proofs.Zeros.{Shape, Sat, length-insert, sat-insert, insert-sat}
 use Rattle.elimination.proofs.Closure.{Closure, Good, good-insert}
@@ -25,6 +28,10 @@ Long w = All (λ l. length l ≡ w)
 
 abbrev pub Zeros : ℕ → List (List ℕ) → List ℕ → Type 0
 Zeros m ls X = All (λ l. Congruent m (dot l X) 0) ls
+
+pub long-vectors : (m n : ℕ) (vs : List (List ℕ)) → AllVectors m n vs → Long n vs
+long-vectors m n [] h = tt
+long-vectors m n (v ∷ vs) h = (vector-length m n v (h .0), long-vectors m n vs (h .1))
 
 -- ---- the empty basis
 

@@ -3,6 +3,7 @@
 --   Kernel              solves the equations with right sides 0
 --   linear-kernel       closed under combination
 --   kernel-head         its heads
+--   kernel-step         the tableau's step has the head, with zeros before it
 use mathlib.Core.Path.{_≡_, sym, ap, _∙_, subst}
 use mathlib.Core.List.{List, [], _∷_, _++_, reverseAux, reverseAux-append}
 use Prim.Native.Nat.{ℕ, zero, suc, _+_, _*_, _≤_, _<_}
@@ -106,3 +107,7 @@ module _ (m n k : ℕ) (es : List Equation) (pos : 0 < m) (shaped : Shaped n es)
         (sat-homogeneous m n k es pos shaped (replicate j 0 ++ (x ∷ W)) (length-led j (x ∷ W) ∙ omega arith) t)
         (ap (drop i) (led-point j x W) ∙ drop-reverse i 0 W (x ∷ replicate (suc j) 0) (omega arith));
   }
+
+  pub kernel-step : (rest : List ℕ) × (length rest ≡ i)
+      × (tableauStep m i j (tableau m n k es) (row .e) ≡ replicate j 0 ++ (row .e ∷ rest))
+  kernel-step = (turned i Y [], length-turned i Y [] long ∙ omega arith, step-led)

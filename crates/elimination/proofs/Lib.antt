@@ -25,3 +25,4 @@ pub mod Kernel
 pub mod Described
 pub mod Agree
 pub mod Marking
+pub mod Missed

@@ -1,5 +1,6 @@
 -- The marking of specs/ gives document 01's: "Pass if the described vectors are those that solve
 -- the ledger's equations, fail otherwise."
+--   all-of-every    the test of the steps
 --   marking         a claim of a starting vector with its steps
 --   marking-none    a claim of no solution
 use mathlib.Core.Path.{_≡_, subst}
@@ -36,7 +37,7 @@ use Rattle.elimination.proofs.Described.{length-shifted, length-differe
 use Rattle.elimination.proofs.Agree.{agree-of-test, test-of-agree, kernel-span, agree-of-same}
 
 -- the test of the steps
-all-of-every : (m : ℕ) (es : List Equation) (cs : List (List ℕ))
+pub all-of-every : (m : ℕ) (es : List Equation) (cs : List (List ℕ))
     → T (every (solves m (homogeneous es)) cs) → All (Kernel m es) cs
 all-of-every m es [] t = tt
 all-of-every m es (c ∷ cs) t =

@@ -1,7 +1,8 @@
 -- The heads of the span of steps are the pivots of the basis of those steps. The rows of the basis are in the span. And
 -- for the pivot d at j there is a point with m / d at j and zeros behind it at which the basis is 0, so that every step
 -- is, and so is every line of the span: an entry x at j, with zeros before it, is killed by m / d.
---   span-head
+--   span-head          the pivot is the head
+--   span-divides       it divides m
 use mathlib.Core.Path.{_≡_, refl, sym, ap, _∙_, subst}
 use mathlib.Core.List.{List, [], _∷_, _++_}
 use Prim.Native.Nat.{ℕ, zero, suc, _+_, _*_, _<_}
@@ -9,6 +10,7 @@ use native.Mathlib.Nat.{add-zero, mul-comm}
 use native.Mathlib.Omega.{arith}
 use lib.ListN.{length, drop, length-drop, replicate, length-replicate}
 use Rattle.residue.specs.Congruent.{Congruent}
+use Rattle.residue.specs.Divides.{Divides}
 use Rattle.residue.proofs.Congruent.{congruent-of, congruent-of-eq, congruent-trans}
 use Rattle.residue.proofs.Divides.{factor-cancel, divides-of-congruent}
 use Rattle.equations.specs.Equation.{dot}
@@ -19,7 +21,7 @@ use Rattle.elimination.proofs.Zeros.{Sat}
 use Rattle.elimination.proofs.Closure.{Good}
 use Rattle.elimination.proofs.Basis.{Long, length-basis, good-basis, zeros-basis}
 use Rattle.elimination.proofs.Substitution.{length-extend, drop-extend, sat-extend}
-use Rattle.elimination.proofs.Row.{RowAt, row-at}
+use Rattle.elimination.proofs.Row.{RowAt, row-at, pivot-divides}
 use Rattle.elimination.proofs.Leading.{sat-zeros}
 use Rattle.elimination.proofs.Linear.{linear-zero, rows-basis, rows-drop}
 use Rattle.elimination.proofs.Heads.{Head}
@@ -93,3 +95,6 @@ module _ (m n : ℕ) (cs : List (List ℕ)) (pos : 0 < m) (long : Long n cs) whe
     where
       at : RowAt m 0 j C → Head (Span m cs) j i (pivot j C)
       at row = rw (row .pivot-is) (head-at j i place row)
+
+  pub span-divides : (j : ℕ) → j < n → Divides (pivot j (basis m n 0 cs)) m
+  span-divides j lt = pivot-divides m 0 j C pos good-C (omega (arith, length-C))

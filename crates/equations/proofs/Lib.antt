@@ -18,6 +18,8 @@ pub mod Ranges
 pub mod Writing
 pub mod Answer
 pub mod Passing
+pub mod Fails
+pub mod Reasons
 pub mod Sums
 pub mod Count
 pub mod Number

@@ -1,5 +1,4 @@
 -- Lists of vectors of n residues; 01's steps are one.
---   AllVectors            each list is a vector of n residues
 --   flat-below            the vectors one behind the other are residues,
 --   flat-length           n for each vector
 --   vector-combination    a vector plus a combination of vectors is a vector
@@ -13,7 +12,7 @@ use Prim.Native.Nat.{ℕ, zero, suc, _*_, _<_, _≤_}
 use native.Mathlib.Omega.{arith}
 use lib.ListN.{length, length-append}
 use lib.Dec.{T}
-use Rattle.equations.specs.Vectors.{Vector, Below, combination}
+use Rattle.equations.specs.Vectors.{Vector, AllVectors, Below, combination}
 use Rattle.equations.specs.Equation.{Equation}
 use Rattle.equations.specs.Answer.{stepAt, andThen, stepsFrom, stepsOf}
 use Rattle.equations.specs.Claim.{from, describes}
@@ -21,10 +20,6 @@ use Rattle.equations.proofs.Vectors.{vector-length, vector-below, below
 use Rattle.equations.proofs.Search.{first-holds}
 use Rattle.equations.proofs.Combine.{vector-combine}
 use Rattle.equations.proofs.Claim.{describes-exists}
-
-abbrev pub AllVectors : ℕ → ℕ → List (List ℕ) → Type 0
-AllVectors m n [] = Unit {0}
-AllVectors m n (v ∷ vs) = Vector m n v × AllVectors m n vs
 
 module _ (m n : ℕ) where
   pub flat-below : (vs : List (List ℕ)) → AllVectors m n vs → Below m (flatten vs)

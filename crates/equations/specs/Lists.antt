@@ -1,5 +1,5 @@
 -- Tests over a finite list: the first element that passes, whether every one does, whether some one
--- does, and how many do. Definitions only.
+-- does, how many do, and the place of the first that does not. Definitions only.
 use mathlib.Core.List.{List, [], _∷_}
 use mathlib.Core.Option.{Option, none, some}
 use mathlib.Core.Bool.{Bool, true, false, cond, _&&_, _||_}
@@ -21,3 +21,12 @@ module _ {A : Type 0} where
   abbrev pub count : (A → Bool) → List A → ℕ
   count p [] = 0
   count p (x ∷ xs) = cond (p x) (suc (count p xs)) (count p xs)
+
+  -- the place of the first that does not pass, where the first of the list has the place j + 1; 0 where every one passes
+  abbrev pub failsFrom : (A → Bool) → ℕ → List A → ℕ
+  failsFrom p j [] = 0
+  failsFrom p j (x ∷ xs) = cond (p x) (failsFrom p (suc j) xs) (suc j)
+
+  -- "steps and equations count from 1"
+  abbrev pub failsAt : (A → Bool) → List A → ℕ
+  failsAt p xs = failsFrom p 0 xs

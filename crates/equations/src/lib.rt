@@ -1,7 +1,18 @@
-// Document 01's answer to a list of equations and its mark of a claim, as definitions and laws alone: see specs/ and proofs/.
+// Document 01's answer to a list of equations, its mark of a claim and document 02's reason beside the mark, as definitions and laws
+// alone: see specs/ and proofs/.
 
 // What a marked claim gets.
 pub enum Mark {
     Pass,
     Fail,
+}
+
+// Why a marked claim fails: the first reason that holds. Steps and equations count from 1. A claim that passes is right.
+pub enum Reason {
+    Right,
+    Solvable,
+    Unsolvable,
+    Breaks(u32),
+    Changes(u32, u32),
+    Misses,
 }

@@ -1,5 +1,6 @@
--- Four tables.
+-- Five tables.
 pub mod Starred
 pub mod Typed
 pub mod Signed
 pub mod Classes
+pub mod Reasons

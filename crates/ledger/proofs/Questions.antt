@@ -9,7 +9,7 @@ use lib.Dec.{T}
 use Rattle.questions.proofs.Questions.{numbered, AllYes, all-yes}
 use Rattle.ledger.specs.Ledger.{Ledger, unopened}
 use Rattle.ledger.specs.Calls.{opens, adds, types, strikes}
-use Rattle.ledger.specs.Calls.{answers, answersFromTape, marks, classes, meaningless}
+use Rattle.ledger.specs.Calls.{answers, answersFromTape, marks, reasons, classes, meaningless}
 use Rattle.ledger.specs.Calls.{Call, enters, queries}
 use Rattle.ledger.specs.Questions.{questions, refusalOf}
 
@@ -21,6 +21,7 @@ numbered-always l (enters (strikes number)) = tt
 numbered-always l (queries (answers buffer)) = tt
 numbered-always l (queries (answersFromTape w)) = tt
 numbered-always l (queries (marks ws)) = tt
+numbered-always l (queries (reasons ws buffer)) = tt
 numbered-always l (queries (classes ws bytes)) = tt
 numbered-always l (queries (meaningless w)) = tt
 

@@ -83,5 +83,6 @@ module _ (n : ℕ) (ws : List ℕ) (shape : T (isClaim n (wordsIn ws))) where
   claimed m below =
       record {
         whole = ap (λ (k : ℕ). k % n) entries-length ∙ mul-mod-left head n;
+        vectors = omega (arith, entries-length, mul-le-mul {n₁ = head} {m₁ = n} {n₂ = largestHead} {m₂ = n} claim-head (omega arith));
         residues = all-below m (entriesOf (wordsIn ws)) .0 below;
       }

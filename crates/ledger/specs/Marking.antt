@@ -1,12 +1,36 @@
--- The mark of a claim that lies in words. Definitions only.
+-- The mark of a claim that lies in words, and the reason beside it. Definitions only.
 use mathlib.Core.List.{List}
 use Prim.Native.Nat.{ℕ}
 use Rattle.equations.specs.declared.Mark.{Mark}
+use Rattle.equations.specs.declared.Reason.{Reason}
+use Rattle.equations.specs.declared.Reason.the-variants.{Right, Solvable, Unsolvable, Breaks, Changes, Misses}
 use Rattle.equations.specs.Claim.{markOf}
-use Rattle.words.specs.Words.{wordsIn}
+use Rattle.equations.specs.Reasons.{reasonOf}
+use Rattle.system.specs.Reasons.{shownWith}
+use Rattle.words.specs.Words.{wordsIn, wordsOf, entryKind, multiplierKind}
 use Rattle.ledger.specs.Ledger.{Ledger, modulusOf, unknownsOf, equationsIn}
 use Rattle.ledger.specs.Shapes.{claimFrom}
 
 -- "Pass if the described vectors are those that solve the ledger's equations, fail otherwise."
 abbrev pub claimMark : Ledger → List ℕ → Mark
 claimMark l ws = markOf (modulusOf l) (unknownsOf l) (equationsIn l) (claimFrom (unknownsOf l) (wordsIn ws))
+
+-- "The tool gives the first of these that holds"
+abbrev pub claimReason : Ledger → List ℕ → Reason
+claimReason l ws = reasonOf (modulusOf l) (unknownsOf l) (equationsIn l) (claimFrom (unknownsOf l) (wordsIn ws))
+
+-- the numbers that are shown beside it
+abbrev pub reasonNumbers : Ledger → List ℕ → List ℕ
+reasonNumbers l ws = shownWith (modulusOf l) (unknownsOf l) (equationsIn l) (claimFrom (unknownsOf l) (wordsIn ws))
+
+-- "It writes words of kinds 6 and 7 as the answer does": the entries of a vector, or multipliers
+abbrev pub shownKind : Reason → ℕ
+shownKind Right = entryKind
+shownKind Solvable = entryKind
+shownKind Unsolvable = multiplierKind
+shownKind (Breaks equation) = entryKind
+shownKind (Changes step equation) = entryKind
+shownKind Misses = entryKind
+
+unfoldable pub reasonWords : Ledger → List ℕ → List ℕ
+reasonWords l ws = wordsOf (shownKind (claimReason l ws)) (reasonNumbers l ws)

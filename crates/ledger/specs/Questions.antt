@@ -1,7 +1,7 @@
 -- The questions of documents 01 and 02 about a call, asked of the ledger and the call's arguments, in the paper's order.
 -- Definitions only.
 use mathlib.Core.Bool.{Bool, false, _&&_}
-use mathlib.Core.List.{List, [], _∷_}
+use mathlib.Core.List.{List, [], _∷_, _++_}
 use Prim.Native.Nat.{ℕ}
 use lib.Dec.{eqb, leb, ltb}
 use lib.ListN.{length}
@@ -13,8 +13,9 @@ use Rattle.grammar.specs.Texts.{isTyped, isWithin, isLinear}
 use Rattle.ledger.specs.Ledger.{Ledger, isOpened, modulusOf, unknownsOf, equationsIn, mostEquations, mostUnknowns}
 use Rattle.ledger.specs.Shapes.{numberAt, isOpening, isEquation, isClaim, entriesOf}
 use Rattle.ledger.specs.Block.{answerWords}
+use Rattle.ledger.specs.Marking.{reasonWords}
 use Rattle.ledger.specs.Classes.{mostClaims, claimsIn}
-use Rattle.ledger.specs.Calls.{Call, opens, adds, types, strikes, answers, answersFromTape, marks, classes, meaningless, enters, queries}
+use Rattle.ledger.specs.Calls.{Call, opens, adds, types, strikes, answers, answersFromTape, marks, reasons, classes, meaningless, enters, queries}
 
 -- "n 1..16?"
 abbrev pub allowedUnknowns : ℕ → Bool
@@ -23,6 +24,14 @@ allowedUnknowns n = leb 1 n && leb n mostUnknowns
 -- "On tape, number 0? 1."
 abbrev pub plain : ℕ → Bool
 plain w = eqb (wordOf w .number) 0
+
+-- "Mark: opened? 4. Shape right? 1. Entries below m? 6."
+abbrev pub markQuestions : Ledger → List ℕ → List Question
+markQuestions l ws =
+    asks 4 (isOpened l)
+    ∷ asks 1 (isClaim (unknownsOf l) (wordsIn ws))
+    ∷ asks 6 (allBelow (modulusOf l) (entriesOf (wordsIn ws)))
+    ∷ []
 
 abbrev pub questions : Ledger → Call → List Question
 -- "Open: two words of kinds 1, 2? 1. m 2..65,535? 2. n 1..16? 3."
@@ -54,12 +63,9 @@ questions l (enters (strikes number)) =
 -- "Answer: opened? 4. On tape, number 0? 1. Buffer long enough for this block? 8; on tape it always is."
 questions l (queries (answers buffer)) = asks 4 (isOpened l) ∷ asks 8 (fits (answerWords l) buffer) ∷ []
 questions l (queries (answersFromTape w)) = asks 4 (isOpened l) ∷ asks 1 (plain w) ∷ []
--- "Mark: opened? 4. Shape right? 1. Entries below m? 6."
-questions l (queries (marks ws)) =
-    asks 4 (isOpened l)
-    ∷ asks 1 (isClaim (unknownsOf l) (wordsIn ws))
-    ∷ asks 6 (allBelow (modulusOf l) (entriesOf (wordsIn ws)))
-    ∷ []
+questions l (queries (marks ws)) = markQuestions l ws
+-- "The questions are those of marking, then 8 for a buffer too short for this reason's words."
+questions l (queries (reasons ws buffer)) = markQuestions l ws ++ (asks 8 (fits (reasonWords l ws) buffer) ∷ [])
 -- "Turned away: after 4, over 64 claims 14; then too few bytes 8."
 questions l (queries (classes ws bytes)) =
     asks 4 (isOpened l)

@@ -3,22 +3,25 @@
 use mathlib.Core.Path.{_≡_}
 use Prim.Native.Nat.{ℕ, _+_, _/_, _%_}
 use mathlib.Core.Bool.{_&&_}
-use mathlib.Core.List.{List, [], _∷_}
+use mathlib.Core.List.{List, [], _∷_, _++_}
 use lib.Dec.{eqb, leb}
 use lib.IntN.{ℤ, pos, negℤ}
 use lib.ListN.{length}
 use Rattle.residue.specs.Chain.{chainOf}
 use Rattle.questions.specs.Questions.{Question, asks, firstNo, unlessRefused}
-use Rattle.questions.specs.Reply.{Reply, gives, refuses, resultOf, memoryAfter}
+use Rattle.questions.specs.Reply.{Reply, gives, refuses, fits, resultOf, memoryAfter}
+use Rattle.slices.specs.Over.{over}
 use Rattle.congruence.specs.declared.Solved.{Solved}
 use Rattle.congruence.specs.declared.Solved.the-variants.{Refused, NoSolution, Solutions}
 use Rattle.congruence.specs.Congruence.{congruenceOf}
 use Rattle.equations.specs.Lines.{equationsOf}
 use Rattle.equations.specs.Multipliers.{allBelow}
 use Rattle.equations.specs.Claim.{markNumber}
+use Rattle.equations.specs.Reasons.{reasonNumber, placesIn}
 use Rattle.system.specs.Block.{blockOf}
-use Rattle.ledger.specs.Ledger.{mostEquations}
-use Rattle.ledger.specs.Questions.{allowedUnknowns}
+use Rattle.ledger.specs.Ledger.{Ledger, mostEquations}
+use Rattle.ledger.specs.Marking.{claimReason, reasonWords}
+use Rattle.ledger.specs.Questions.{allowedUnknowns, markQuestions}
 use Rattle.sheet.specs.declared.Entered.{Entered}
 use Rattle.sheet.specs.declared.Entered.the-variants.{Holds, Refused as Entered·Refused}
 use Rattle.sheet.specs.declared.answering.Answered.{Answered}
@@ -35,9 +38,9 @@ use Rattle.tape.specs.Output.{mostBytes, lines}
 abbrev pub minus : ℕ → ℤ
 minus k = negℤ (pos k)
 
--- 10,000 times the major, 100 times the minor and the patch number: 2.1.0
+-- 10,000 times the major, 100 times the minor and the patch number: 2.2.0
 abbrev pub version : ℕ
-version = 20100
+version = 20200
 
 -- What the calls on a sheet give back, as a result: "the equations then held", how many words the block has, 1 for a pass and 0 for a
 -- fail, or how many claims a class has; or minus the number of the refusal.
@@ -56,6 +59,28 @@ markedResult (Marked·Refused k) = minus k
 unfoldable pub classedResult : Classed → ℤ
 classedResult (Claims k) = pos k
 classedResult (Classed·Refused k) = minus k
+
+-- A reason has two lent memories: `at` for the step, the equation and the number of words, and `out` for the words. The questions of
+-- marking, then 8 for an `at` of fewer than 3 numbers, "then 8 for a buffer too short for this reason's words".
+abbrev pub placeRoom : ℕ
+placeRoom = 3
+
+abbrev pub reasonRefusal : Ledger → List ℕ → List ℕ → List ℕ → ℕ
+reasonRefusal l ws at out =
+    firstNo (markQuestions l ws ++ (asks 8 (leb placeRoom (length at)) ∷ asks 8 (fits (reasonWords l ws) out) ∷ []))
+
+-- the reason's number, which is 0 for a claim that passes, or minus the number of the refusal
+unfoldable pub reasonResult : Ledger → List ℕ → List ℕ → List ℕ → ℤ
+reasonResult l ws at out = unlessRefused minus (reasonRefusal l ws at out) (pos (reasonNumber (claimReason l ws)))
+
+-- what the two memories then hold; at a refusal both keep their content
+unfoldable pub placesAfter : Ledger → List ℕ → List ℕ → List ℕ → List ℕ
+placesAfter l ws at out =
+    unlessRefused (λ (k : ℕ). at) (reasonRefusal l ws at out)
+    (over (placesIn (claimReason l ws) ++ (length (reasonWords l ws) ∷ [])) at)
+
+unfoldable pub reasonAfter : Ledger → List ℕ → List ℕ → List ℕ → List ℕ
+reasonAfter l ws at out = unlessRefused (λ (k : ℕ). out) (reasonRefusal l ws at out) (over (reasonWords l ws) out)
 
 -- a call replied: it returned r, and the lent memory went from `old` to `new`
 pub record Replied (reply : Reply ℤ) (old new : List ℕ) (r : ℤ) : Type 0 where

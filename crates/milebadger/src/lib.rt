@@ -1,5 +1,6 @@
 // The C face: every call that a C program can make, thin over the crates that do the work. Here are those without a sheet.
 mod posing;
+mod reasoning;
 mod replying;
 pub mod sheets;
 
@@ -28,7 +29,7 @@ const FEW: u32 = 4;
 const FEW_NUMBERS: usize = 20;
 
 // The header's: 10,000 · 2 + 100 · 1 + 0.
-const VERSION: u32 = 20100;
+const VERSION: u32 = 20200;
 
 #[no_mangle]
 pub extern "C" fn milebadger_version() -> u32

@@ -5,6 +5,10 @@ ghost use Rattle.ledger.specs.Calls.{opens, adds, types, strikes};
 ghost use Rattle.sheet.specs.Record.{ledgerOf};
 ghost use Rattle.sheet.specs.Calls.{enteredOf, sheetAfter, answeredOf, bufferAfter, markedOf, classedOf, marksAfter};
 ghost use Rattle.milebadger.specs.Calls.{enteredResult, answeredResult, markedResult, classedResult};
+ghost use Rattle.milebadger.specs.Calls.{reasonResult, placesAfter, reasonAfter};
+use crate::reasoning::PLACES;
+use crate::reasoning::give_reason;
+use crate::reasoning::places_missing;
 use crate::replying::entered_result;
 use crate::replying::mark_result;
 use crate::replying::refuse;
@@ -12,6 +16,7 @@ use sheet::Sheet;
 use sheet::answering::Answered;
 use sheet::classing::Classed;
 use sheet::marking::Marked;
+use sheet::reasoning::Reasoned;
 
 // Opens the sheet: 0.
 #[no_mangle]
@@ -75,6 +80,31 @@ pub extern "C" fn milebadger_mark(sheet: &[u32; Sheet::SIZE], words: &[u32]) -> 
     match marked {
         Marked::Gets(mark) => mark_result(mark),
         Marked::Refused(number) => refuse(number),
+    }
+}
+
+// Gives the reason why a claim fails: its number, which is 0 where the claim passes. The step, the equation and the number of words go to
+// `at`, and the words that show a solution or multipliers to `out`.
+#[no_mangle]
+pub extern "C" fn milebadger_reason(
+    sheet: &[u32; Sheet::SIZE],
+    words: &[u32],
+    at: &mut [u32],
+    out: &mut [u32],
+) -> i64
+    ensures { λ r. ⌜ r ≡ reasonResult (ledgerOf (now (sheet .entry))) (now (words .entry)) (now (at .entry)) (now (out .entry)) ⌝ }
+    ensures { λ _. ⌜ now (at .exit)
+        ≡ placesAfter (ledgerOf (now (sheet .entry))) (now (words .entry)) (now (at .entry)) (now (out .entry)) ⌝ }
+    ensures { λ _. ⌜ now (out .exit)
+        ≡ reasonAfter (ledgerOf (now (sheet .entry))) (now (words .entry)) (now (at .entry)) (now (out .entry)) ⌝ }
+{
+    if at.len() < PLACES {
+        return places_missing(sheet, words);
+    }
+    let reasoned = Sheet::reason(sheet, words, out);
+    match reasoned {
+        Reasoned::Gives(reason, written) => give_reason(reason, written, at),
+        Reasoned::Refused(number) => refuse(number),
     }
 }
 

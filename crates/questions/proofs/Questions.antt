@@ -3,16 +3,17 @@
 --   numbered          no question has the number 0, which stands for none; a test, so that a list shows it by computing
 --   numbered-append   nor has one of two lists
 --   AllYes, all-yes   each question has the answer yes; so it is where none turns a call away
+--   unless-either     what a call gives is its answer, and nothing turned it away, or the refusal
 --   first-no-append   the questions of a second list are asked where none of the first turns a call away
 --   within-range      the test of a modulus or of a number of unknowns says that it lies in its range
 use mathlib.Core.Path.{_≡_, refl}
-use mathlib.Core.Logic.{_↔_}
+use mathlib.Core.Logic.{_↔_, _⊎_, inl, inr}
 use mathlib.Core.Bool.{Bool, true, false, cond, _&&_}
 use mathlib.Core.List.{List, [], _∷_, _++_}
 use Prim.Native.Nat.{ℕ, _≤_}
 use native.Mathlib.Omega.{arith}
-use borrow.Author.Tests.{ne-eqb}
-use lib.Dec.{T, leb, ltb, leb→le, le→leb, ltb→lt}
+use borrow.Author.Tests.{ne-eqb, eqb-true, eqb-false}
+use lib.Dec.{T, eqb, leb, ltb, leb→le, le→leb, ltb→lt}
 use mir.Facts.{and-yes, yes-and}
 use Rattle.questions.specs.Questions.{Question, firstNo, unlessRefused}
 
@@ -39,6 +40,14 @@ all-yes (q ∷ qs) numbers none =
         → T test × AllYes qs
     go true n h rest = (tt, rest h)
     go false n h rest = absurd (omega (arith, ltb→lt 0 (q .number) n))
+
+pub unless-either : {A : Type 0} (refuse : ℕ → A) (r : ℕ) (answer x : A) → unlessRefused refuse r answer ≡ x
+    → ((r ≡ 0) × (answer ≡ x)) ⊎ ((r ≡ 0 → ⊥) × (refuse r ≡ x))
+unless-either refuse r answer x = by (eqb r 0) refl
+  where
+    by : (b : Bool) → eqb r 0 ≡ b → cond b answer (refuse r) ≡ x → ((r ≡ 0) × (answer ≡ x)) ⊎ ((r ≡ 0 → ⊥) × (refuse r ≡ x))
+    by true none is = inl (eqb-true r 0 none, is)
+    by false some is = inr (eqb-false r 0 some, is)
 
 pub first-no-append : (qs rest : List Question) → T (numbered qs)
     → firstNo (qs ++ rest) ≡ unlessRefused (λ k. k) (firstNo qs) (firstNo rest)

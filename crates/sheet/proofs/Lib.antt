@@ -12,6 +12,8 @@ pub mod MarkGiven
 pub mod History
 pub mod Answers
 pub mod Marks
+pub mod Reasoned
+pub mod Reasons
 pub mod Classes
 pub mod Classed
 pub mod Said

@@ -3,8 +3,9 @@
 --   mark-opened            an accepted one: the sheet is opened,
 --   mark-end               the claim's end is seen in the numbers,
 --   mark-claimed           and its entries, which may be marked
---   marked-as              and so they are
-use mathlib.Core.Path.{_≡_, sym, ap, _∙_}
+--   marked-as              and so they are,
+--   explained-as           or explained
+use mathlib.Core.Path.{_≡_, refl, sym, ap, _∙_}
 use mathlib.Core.Bool.{Bool, cond}
 use mathlib.Core.List.{List, [], _∷_, _++_}
 use Prim.Native.Nat.{ℕ, suc, _+_, _-_, _*_, _≤_}
@@ -18,7 +19,9 @@ use Rattle.slices.specs.Over.{over}
 use Rattle.equations.specs.declared.Mark.the-variants.{Pass, Fail}
 use Rattle.equations.specs.Equation.{Equation}
 use Rattle.equations.specs.Claim.{passes, markOf}
+use Rattle.system.specs.declared.explaining.Finding.{Finding}
 use Rattle.system.specs.Claims.{Claimed, claimOf}
+use Rattle.system.specs.Reasons.{shownWith, findingOf}
 use Rattle.words.specs.Words.{wordsIn, numbersOf}
 use Rattle.words.proofs.Words.{numberOf, numbers-count}
 use Rattle.words.proofs.Unpacked.{all-seen, part-seen}
@@ -32,7 +35,9 @@ use Rattle.ledger.proofs.Questions.{accepted-yes}
 use Rattle.asking.specs.declared.Seen.{Seen}
 use Rattle.asking.specs.Sees.{Sees, claimRoom}
 use Rattle.sheet.specs.declared.marking.Marked.the-variants.{Gets, Refused}
+use Rattle.sheet.specs.declared.reasoning.Reasoned.the-variants.{Gives}
 use Rattle.sheet.specs.Calls.{markedOf}
+use Rattle.sheet.specs.View.{explainedOf, explainedNumbers}
 
 pub marked-refused : (l : Ledger) (ws : List ℕ) (k : ℕ) → refusalOf l (queries (marks ws)) ≡ k → (k ≡ 0 → ⊥) → Refused k ≡ markedOf l ws
 unfolding markedOf
@@ -91,3 +96,14 @@ module _ (l : Ledger) (ws : List ℕ) (accepted : refusalOf l (queries (marks ws
           let decided : result ≡ passes (modulusOf l) (unknownsOf l) (equationsIn l) (claimOf (unknownsOf l) (entriesOf (wordsIn ws))) =
           is ∙ rw (entries-are, same-es, sees .modulus, sees .unknowns) in
           rw (accepted, decided)
+
+      pub explained-as : (es : List Equation) → es ≡ equationsIn l → (found : Finding) (before : List ℕ) {shown : List ℕ}
+          → found ≡ findingOf (see .modulus) (see .unknowns) es (claimOf (see .unknowns) (take (h * see .unknowns + 1 - 1) (drop 1 new)))
+          → shown ≡ over (shownWith (see .modulus) (see .unknowns) es (claimOf (see .unknowns) (take (h * see .unknowns + 1 - 1) (drop 1 new)))) before
+          → (Gives (found .reason) (found .len) ≡ explainedOf l ws) × (shown ≡ over (explainedNumbers l ws) before)
+      unfolding explainedOf explainedNumbers findingOf
+      explained-as es same-es found before is written =
+          let same : findingOf (see .modulus) (see .unknowns) es (claimOf (see .unknowns) (take (h * see .unknowns + 1 - 1) (drop 1 new)))
+          ≡ findingOf (modulusOf l) (unknownsOf l) (equationsIn l) (claimOf (unknownsOf l) (entriesOf (wordsIn ws))) =
+          rw (entries-are, same-es, sees .modulus, sees .unknowns) in
+          rw (accepted, is ∙ same) (refl, written ∙ rw (entries-are, same-es, sees .modulus, sees .unknowns))

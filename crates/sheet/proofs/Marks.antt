@@ -1,17 +1,20 @@
 -- A mark is right: what demand 3 says of it.
---   marked-accepted    an accepted claim gets its mark
+--   marked-accepted    an accepted claim gets its mark,
+--   mark-accepted, mark-refused   and what is said tells whether it is accepted, or why not
 --   well-accepted      a well-formed claim is accepted
---   mark-tells         and what is a function of its mark tells whether it describes the solutions of the ledger's equations
+--   mark-decides       what is a function of its mark tells whether it passes,
+--   mark-tells         and so whether it describes the solutions of the ledger's equations
 --   right-mark         so it is marked
 --   own-mark           an answer's own words, where there is a solution, are passed
 use mathlib.Core.Path.{_≡_, refl, ap, _∙_}
-use mathlib.Core.Logic.{_↔_}
+use mathlib.Core.Logic.{_↔_, _⊎_, inl, inr}
 use mathlib.Core.Bool.{Bool, true, false, cond}
 use mathlib.Core.List.{List}
 use mathlib.Core.Option.{some}
 use Prim.Native.Nat.{ℕ, _<_, _≤_}
 use native.Mathlib.Omega.{arith}
 use lib.Dec.{T}
+use Rattle.questions.proofs.Questions.{unless-either}
 use Rattle.equations.specs.declared.Mark.{Mark}
 use Rattle.equations.specs.declared.Mark.the-variants.{Pass, Fail}
 use Rattle.equations.specs.Equation.{Equation}
@@ -32,7 +35,7 @@ use Rattle.ledger.specs.Questions.{refusalOf}
 use Rattle.ledger.proofs.Shapes.{claimed}
 use Rattle.ledger.proofs.Refusals.{marks-accepted}
 use Rattle.ledger.proofs.Own.{own-shape, own-entries, own-claim}
-use Rattle.sheet.specs.declared.marking.Marked.the-variants.{Gets}
+use Rattle.sheet.specs.declared.marking.Marked.the-variants.{Gets, Refused}
 use Rattle.sheet.specs.Calls.{markedOf}
 use Rattle.sheet.specs.Promises.{WellFormed, DescribesSolutions, RightMark}
 
@@ -40,7 +43,28 @@ pub marked-accepted : (l : Ledger) (ws : List ℕ) → refusalOf l (queries (mar
 unfolding markedOf
 marked-accepted l ws accepted = rw accepted
 
-pass-or-fail : Gets Pass ≡ Gets Fail → ⊥
+module _ (l : Ledger) (ws : List ℕ) where
+  abbrev asked : ℕ
+  asked = refusalOf l (queries (marks ws))
+
+  pub mark-accepted : {mark : Mark} → markedOf l ws ≡ Gets mark → refusalOf l (queries (marks ws)) ≡ 0
+  unfolding markedOf
+  mark-accepted {mark} is = by (unless-either Refused asked (Gets (claimMark l ws)) (Gets mark) is)
+    where
+      by : ((asked ≡ 0) × (Gets (claimMark l ws) ≡ Gets mark)) ⊎ ((asked ≡ 0 → ⊥) × (Refused asked ≡ Gets mark)) → asked ≡ 0
+      by (inl (none, same)) = none
+      by (inr (refused, same)) = let z : _≡_ {A = ℕ} 0 1 = cc in absurd (omega arith)
+
+  pub mark-refused : {k : ℕ} → markedOf l ws ≡ Refused k → (refusalOf l (queries (marks ws)) ≡ k) × (k ≡ 0 → ⊥)
+  unfolding markedOf
+  mark-refused {k} is = by (unless-either Refused asked (Gets (claimMark l ws)) (Refused k) is)
+    where
+      by : ((asked ≡ 0) × (Gets (claimMark l ws) ≡ Refused k)) ⊎ ((asked ≡ 0 → ⊥) × (Refused asked ≡ Refused k))
+          → (asked ≡ k) × (k ≡ 0 → ⊥)
+      by (inl (none, same)) = let z : _≡_ {A = ℕ} 0 1 = cc in absurd (omega arith)
+      by (inr (refused, same)) = let e : asked ≡ k = cc in (e, λ z. refused (e ∙ z))
+
+pub pass-or-fail : Gets Pass ≡ Gets Fail → ⊥
 pass-or-fail same = let z : _≡_ {A = ℕ} 0 1 = cc in omega arith
 
 -- a function of a mark
@@ -60,14 +84,19 @@ module _ (m n : ℕ) (es : List Equation) where
       passes-described m n es (claimFrom n (wordsIn ws))
       (claim-described m n (entriesOf (wordsIn ws)) pos (claimed n ws (well .0) m (well .1)))
 
-  -- whatever tells the two marks apart tells whether the claim is right
+  -- whatever tells the two marks apart tells what decides whether the claim passes
+  pub mark-decides : (ws : List ℕ) {P : Type 0} → T (passes m n es (claimFrom n (wordsIn ws))) ↔ P → {A : Type 0} (f : Mark → A)
+      → (f Pass ≡ f Fail → ⊥)
+      → ((f (claimMark (opened m n es) ws) ≡ f Pass) ↔ P) × ((f (claimMark (opened m n es) ws) ≡ f Fail) ↔ (P → ⊥))
+  unfolding markOf
+  mark-decides ws same f apart =
+      rw (by-test f (passes m n es (claimFrom n (wordsIn ws))))
+      (cond-tells (f Pass) (f Fail) apart (passes m n es (claimFrom n (wordsIn ws))) same)
+
   pub mark-tells : 0 < m → (ws : List ℕ) → WellFormed m n ws → {A : Type 0} (f : Mark → A) → (f Pass ≡ f Fail → ⊥)
       → ((f (claimMark (opened m n es) ws) ≡ f Pass) ↔ DescribesSolutions m n es (claimFrom n (wordsIn ws)))
       × ((f (claimMark (opened m n es) ws) ≡ f Fail) ↔ (DescribesSolutions m n es (claimFrom n (wordsIn ws)) → ⊥))
-  unfolding markOf
-  mark-tells pos ws well f apart =
-      rw (by-test f (passes m n es (claimFrom n (wordsIn ws))))
-      (cond-tells (f Pass) (f Fail) apart (passes m n es (claimFrom n (wordsIn ws))) (well-described pos ws well))
+  mark-tells pos ws well = mark-decides ws (well-described pos ws well)
 
   pub right-mark : 0 < m → (ws : List ℕ) → WellFormed m n ws
       → RightMark m n es (claimFrom n (wordsIn ws)) (markedOf (opened m n es) ws)

@@ -5,6 +5,8 @@
 --   own-block-passes    an answer's own block passes
 --   added-always        an equation in words is added as document 02 says, minus signs and large numbers included,
 --   typed-always        and a typed one is turned away or added so
+--   reason-always       a claim that fails is told a true reason,
+--   same-refusals       and what marking turns away is turned away so
 --   class-always        the claims of a class are marked as each is singly,
 --   stray-words         and a word that is no head is one of them
 --   zeros-are-fresh     zeroed memory is a fresh sheet
@@ -28,7 +30,7 @@ use Rattle.ledger.specs.Ledger.{Ledger, opened, isOpened, modulusOf, unknownsOf
 use Rattle.ledger.specs.Allowed.{Allowed}
 use Rattle.ledger.specs.Shapes.{claimFrom}
 use Rattle.ledger.specs.Block.{answerWords}
-use Rattle.ledger.specs.Calls.{Call, answers, classes, queries}
+use Rattle.ledger.specs.Calls.{Call, answers, reasons, classes, queries}
 use Rattle.ledger.specs.Questions.{refusalOf}
 use Rattle.ledger.specs.History.{ledger}
 use Rattle.ledger.proofs.Answer.{answer-fits}
@@ -37,14 +39,16 @@ use Rattle.ledger.proofs.History.{Opened, opening-opens}
 use Rattle.sheet.specs.declared.answering.Answered.the-variants.{Wrote}
 use Rattle.sheet.specs.declared.marking.Marked.the-variants.{Gets}
 use Rattle.sheet.specs.Record.{Sheet, fresh, ledgerOf}
-use Rattle.sheet.specs.Calls.{enteredOf, answeredOf, bufferAfter, shownOf, markedOf, classedOf, marksAfter}
+use Rattle.sheet.specs.Calls.{enteredOf, answeredOf, bufferAfter, shownOf, markedOf, reasonedOf, shownAfter, classedOf, marksAfter}
 use Rattle.sheet.specs.History.{sheetFrom, after}
-use Rattle.sheet.specs.Promises.{NothingSolves, Shows, RightMark, RightSheet, Demand3, DecidedAlways, OwnBlockPasses, ZerosAreFresh, RightAlways, ReadsOn, AddedAlways, TypedAlways, ClassAlways, StrayWords}
+use Rattle.sheet.specs.Promises.{NothingSolves, Shows, RightMark, RightSheet, Demand3, DecidedAlways, OwnBlockPasses, ZerosAreFresh, RightAlways, ReadsOn, AddedAlways, TypedAlways, ReasonAlways, SameRefusals, ClassAlways, StrayWords}
 use Rattle.sheet.proofs.Reading.{reads-allowed}
 use Rattle.sheet.proofs.History.{from-reads, fresh-unopened, after-reads, left-refused}
 use Rattle.sheet.proofs.Solved.{solved-words, shown-block}
 use Rattle.sheet.proofs.Answers.{answered-short, answered-wrote, answered-asked, buffer-asked, shown-refusal, right-block}
 use Rattle.sheet.proofs.Marks.{right-mark, own-mark}
+use Rattle.sheet.proofs.Reasoned.{reasoned-asked, shown-asked}
+use Rattle.sheet.proofs.Reasons.{right-reason, same-refusal}
 use Rattle.sheet.proofs.Classes.{classed-asked, marks-asked}
 use Rattle.sheet.proofs.Classed.{right-class, right-strays}
 use Rattle.sheet.proofs.Added.{right-adding}
@@ -122,6 +126,12 @@ added-always s m n es ws reads = right-adding s m n es ws reads (positive s m n 
 pub typed-always : TypedAlways
 typed-always s m n es text reads = right-typing s m n es text reads (positive s m n es reads)
 
+pub reason-always : ReasonAlways
+reason-always s m n es ws reads well = right-reason m n es ws (allowed s m n es reads) well s reads
+
+pub same-refusals : SameRefusals
+same-refusals s = same-refusal (ledgerOf s)
+
 pub class-always : ClassAlways
 class-always s m n es ws old reads = right-class m n es (positive s m n es reads) ws old s reads
 
@@ -143,6 +153,9 @@ own-block-passes calls m n es old holds solvable h =
 buffer-kept : (l : Ledger) (old : List ℕ) → 0 < refusalOf l (queries (answers old)) → bufferAfter l old ≡ old
 buffer-kept l old h = buffer-asked l old ∙ rw (ne-eqb (refusalOf l (queries (answers old))) 0 (λ e. omega arith))
 
+shown-kept : (l : Ledger) (ws old : List ℕ) → 0 < refusalOf l (queries (reasons ws old)) → shownAfter l ws old ≡ old
+shown-kept l ws old h = shown-asked l ws old ∙ rw (ne-eqb (refusalOf l (queries (reasons ws old))) 0 (λ e. omega arith))
+
 marks-kept : (l : Ledger) (ws old : List ℕ) → 0 < refusalOf l (queries (classes ws old)) → marksAfter l ws old ≡ old
 marks-kept l ws old h = marks-asked l ws old ∙ rw (ne-eqb (refusalOf l (queries (classes ws old))) 0 (λ e. omega arith))
 
@@ -158,9 +171,11 @@ decided-always calls =
       answering = λ old. ap (λ (l : Ledger). answeredOf l old) reads ∙ answered-asked (ledger calls) old;
       showing = λ w. ap (λ (l : Ledger). shownOf l w) reads;
       marking = λ ws. ap (λ (l : Ledger). markedOf l ws) reads;
+      reasoning = λ ws old. ap (λ (l : Ledger). reasonedOf l ws old) reads ∙ reasoned-asked (ledger calls) ws old;
       classing = λ ws old. ap (λ (l : Ledger). classedOf l ws old) reads ∙ classed-asked (ledger calls) ws old;
       sheetKept = λ c h. left-refused (after calls) c (refused c h);
       bufferKept = λ old h. buffer-kept (ledgerOf (after calls)) old (refused (queries (answers old)) h);
+      shownKept = λ ws old h. shown-kept (ledgerOf (after calls)) ws old (refused (queries (reasons ws old)) h);
       marksKept = λ ws old h. marks-kept (ledgerOf (after calls)) ws old (refused (queries (classes ws old)) h);
     }
 

@@ -6,15 +6,16 @@ use lib.Dec.{leb}
 use lib.ListN.{length, replicate}
 use Rattle.questions.specs.Questions.{asks, firstNo, unlessRefused}
 use Rattle.questions.specs.Reply.{Reply, gives, refuses, resultOf, memoryAfter}
+use Rattle.equations.specs.declared.Reason.{Reason}
 use Rattle.equations.specs.Claim.{markNumber}
 use Rattle.system.specs.declared.solving.Answer.{Answer}
 use Rattle.system.specs.Block.{answerOf}
 use Rattle.ledger.specs.Ledger.{Ledger, isOpened, modulusOf, unknownsOf, equationsIn}
 use Rattle.ledger.specs.Block.{answerWords}
-use Rattle.ledger.specs.Marking.{claimMark}
+use Rattle.ledger.specs.Marking.{claimMark, claimReason, reasonWords}
 use Rattle.ledger.specs.Classes.{mostClaims, claimsIn}
 use Rattle.ledger.specs.Calls.{Entry, answersFromTape, marks, enters, queries}
-use Rattle.ledger.specs.Questions.{refusalOf}
+use Rattle.ledger.specs.Questions.{markQuestions, refusalOf}
 use Rattle.ledger.specs.History.{effectOf, enter}
 use Rattle.sheet.specs.declared.Entered.{Entered}
 use Rattle.sheet.specs.declared.Entered.the-variants.{Holds, Refused as Entered·Refused}
@@ -23,6 +24,8 @@ use Rattle.sheet.specs.declared.answering.Answered.the-variants.{Wrote, 
 use Rattle.sheet.specs.declared.answering.Shown.{Shown}
 use Rattle.sheet.specs.declared.marking.Marked.{Marked}
 use Rattle.sheet.specs.declared.marking.Marked.the-variants.{Gets, Refused as Marked·Refused}
+use Rattle.sheet.specs.declared.reasoning.Reasoned.{Reasoned}
+use Rattle.sheet.specs.declared.reasoning.Reasoned.the-variants.{Gives, Refused as Reasoned·Refused}
 use Rattle.sheet.specs.declared.classing.Classed.{Classed}
 use Rattle.sheet.specs.declared.classing.Classed.the-variants.{Claims, Refused as Classed·Refused}
 use Rattle.sheet.specs.Record.{Sheet, ledgerOf, recordBy}
@@ -60,6 +63,20 @@ shownOf l w =
 -- Mark: the mark, or the number of the question that turned the claim away.
 unfoldable pub markedOf : Ledger → List ℕ → Marked
 markedOf l ws = unlessRefused Marked·Refused (refusalOf l (queries (marks ws))) (Gets (claimMark l ws))
+
+-- Reason: the reason, and how many words are written beside it. "The questions are those of marking"; 8 is asked of every reply.
+abbrev pub showReply : Reason → List ℕ → Reply Reasoned
+showReply reason words = gives (Gives reason (length words)) words
+
+abbrev pub reasonReply : Ledger → List ℕ → Reply Reasoned
+reasonReply l ws = unlessRefused refuses (firstNo (markQuestions l ws)) (showReply (claimReason l ws) (reasonWords l ws))
+
+-- what it gives back and what it leaves in a buffer that held `old`
+unfoldable pub reasonedOf : Ledger → List ℕ → List ℕ → Reasoned
+reasonedOf l ws old = resultOf Reasoned·Refused (reasonReply l ws) old
+
+unfoldable pub shownAfter : Ledger → List ℕ → List ℕ → List ℕ
+shownAfter l ws old = memoryAfter (reasonReply l ws) old
 
 -- A class. "a byte per claim receives 0 fail, 1 pass or the refusal number plus 100"
 abbrev pub markByte : Marked → ℕ

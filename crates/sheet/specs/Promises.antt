@@ -1,10 +1,10 @@
 -- Demand 3, in the customer's words, and what stands beside it. Each promise is a type; proofs/Promises.antt keeps it.
 --
--- Why this is about the code: `enteredOf`, `sheetAfter`, `answeredOf`, `bufferAfter`, `shownOf`, `markedOf`, `classedOf` and `marksAfter` are
--- what the contracts of open, add, strike, answer, mark and class say that the calls give back and leave, those of the C calls too, for
--- every sheet, all words and any buffer. `after` puts the sheet that a call left into the next call. So `after calls` is what the caller's
--- memory holds after the calls, and what is promised here of those names at that sheet is what the next call does. `ledger` sees the
--- calls alone. Definitions only.
+-- Why this is about the code: `enteredOf`, `sheetAfter`, `answeredOf`, `bufferAfter`, `shownOf`, `markedOf`, `reasonedOf`, `shownAfter`,
+-- `classedOf` and `marksAfter` are what the contracts of open, add, strike, answer, mark, reason and class say that the calls give back and
+-- leave, those of the C calls too, for every sheet, all words and any buffer. `after` puts the sheet that a call left into the next call.
+-- So `after calls` is what the caller's memory holds after the calls, and what is promised here of those names at that sheet is what the
+-- next call does. `ledger` sees the calls alone. Definitions only.
 use mathlib.Core.Path.{_≡_}
 use mathlib.Core.Logic.{_↔_, _⊎_}
 use mathlib.Core.List.{List, [], _∷_, _++_, flatten}
@@ -20,7 +20,10 @@ use Rattle.equations.specs.Whole.{HoldsWhole}
 use Rattle.equations.specs.Answer.{startOf, stepsOf}
 use Rattle.equations.specs.Multipliers.{refutes, allBelow}
 use Rattle.equations.specs.declared.Mark.the-variants.{Pass, Fail}
+use Rattle.equations.specs.declared.Reason.{Reason}
+use Rattle.equations.specs.declared.Reason.the-variants.{Right}
 use Rattle.equations.specs.Claim.{Claim, describes}
+use Rattle.equations.specs.Reasons.{Says}
 use Rattle.system.specs.Block.{answerOf}
 use Rattle.words.specs.Words.{word, wordOf, wordsIn, wordsOf, headKind, entryKind, multiplierKind}
 use Rattle.words.specs.Signs.{wholesOf}
@@ -31,9 +34,9 @@ use Rattle.ledger.specs.Ledger.{unopened, opened, modulusOf, unknownsOf, equati
 use Rattle.ledger.specs.Allowed.{Allowed}
 use Rattle.ledger.specs.Shapes.{isEquation, isClaim, largestHead, entriesOf, claimFrom}
 use Rattle.ledger.specs.Block.{longestBlock, blockWords, answerWords}
-use Rattle.ledger.specs.Marking.{claimMark}
+use Rattle.ledger.specs.Marking.{claimMark, claimReason, shownKind, reasonWords}
 use Rattle.ledger.specs.Classes.{mostClaims, claimsIn}
-use Rattle.ledger.specs.Calls.{Call, Entry, opens, adds, types, answers, answersFromTape, marks, classes, enters, queries}
+use Rattle.ledger.specs.Calls.{Call, Entry, opens, adds, types, answers, answersFromTape, marks, reasons, classes, enters, queries}
 use Rattle.ledger.specs.Questions.{plain, refusalOf}
 use Rattle.ledger.specs.History.{enter, ledgerFrom, ledger}
 use Rattle.sheet.specs.declared.Entered.the-variants.{Holds, Refused as Entered·Refused}
@@ -41,9 +44,10 @@ use Rattle.sheet.specs.declared.answering.Answered.the-variants.{Wrote, 
 use Rattle.sheet.specs.declared.answering.Shown.{Shown}
 use Rattle.sheet.specs.declared.marking.Marked.{Marked}
 use Rattle.sheet.specs.declared.marking.Marked.the-variants.{Gets, Refused as Marked·Refused}
+use Rattle.sheet.specs.declared.reasoning.Reasoned.the-variants.{Gives, Refused as Reasoned·Refused}
 use Rattle.sheet.specs.declared.classing.Classed.the-variants.{Claims, Refused as Classed·Refused}
 use Rattle.sheet.specs.Record.{Sheet, size, ledgerOf}
-use Rattle.sheet.specs.Calls.{enteredOf, sheetAfter, answeredOf, bufferAfter, noBlock, shownOf, markedOf, markByte, claimsOf, classedOf, marksAfter}
+use Rattle.sheet.specs.Calls.{enteredOf, sheetAfter, answeredOf, bufferAfter, noBlock, shownOf, markedOf, reasonedOf, shownAfter, markByte, claimsOf, classedOf, marksAfter}
 use Rattle.sheet.specs.History.{left, sheetFrom, after}
 
 -- "refused calls anywhere in it and at least one opening accepted": by the questions, asked of the ledger at that place
@@ -137,6 +141,10 @@ pub record Decided (calls : List Call) : Type 0 where
   pub marking : (ws : List ℕ)
       → markedOf (ledgerOf (after calls)) ws
       ≡ unlessRefused Marked·Refused (refusalOf (ledger calls) (queries (marks ws))) (Gets (claimMark (ledger calls) ws))
+  pub reasoning : (ws old : List ℕ)
+      → reasonedOf (ledgerOf (after calls)) ws old
+      ≡ unlessRefused Reasoned·Refused (refusalOf (ledger calls) (queries (reasons ws old)))
+      (Gives (claimReason (ledger calls) ws) (length (reasonWords (ledger calls) ws)))
   pub classing : (ws old : List ℕ)
       → classedOf (ledgerOf (after calls)) ws old
       ≡ unlessRefused Classed·Refused (refusalOf (ledger calls) (queries (classes ws old))) (Claims (length (claimsOf (ledger calls) ws)))
@@ -144,6 +152,8 @@ pub record Decided (calls : List Call) : Type 0 where
   pub sheetKept : (c : Call) → 0 < refusalOf (ledger calls) c → left (after calls) c ≡ after calls
   pub bufferKept : (old : List ℕ) → 0 < refusalOf (ledger calls) (queries (answers old))
       → bufferAfter (ledgerOf (after calls)) old ≡ old
+  pub shownKept : (ws old : List ℕ) → 0 < refusalOf (ledger calls) (queries (reasons ws old))
+      → shownAfter (ledgerOf (after calls)) ws old ≡ old
   pub marksKept : (ws old : List ℕ) → 0 < refusalOf (ledger calls) (queries (classes ws old))
       → marksAfter (ledgerOf (after calls)) ws old ≡ old
 
@@ -184,6 +194,34 @@ pub record RightAdding (s : Sheet) (m n : ℕ) (es : List Equation) (ws : List �
 -- Whatever the memory holds, and so after every list of calls.
 abbrev pub AddedAlways : Type 0
 AddedAlways = (s : Sheet) (m n : ℕ) (es : List Equation) (ws : List ℕ) → ledgerOf s ≡ opened m n es → RightAdding s m n es ws
+
+-- What document 02 says of the reason of a well-formed claim, S-5, on a sheet whose ledger has m, n and es.
+pub record RightReason (s : Sheet) (m n : ℕ) (es : List Equation) (ws : List ℕ) : Type 0 where
+  -- "A passed claim gives no reason, and each failed one gives a reason"
+  pub reason : Reason
+  pub passed : (markedOf (ledgerOf s) ws ≡ Gets Pass) ↔ (reason ≡ Right)
+  pub failed : (markedOf (ledgerOf s) ws ≡ Gets Fail) ↔ (reason ≡ Right → ⊥)
+  -- "that is true as stated", with the numbers that are shown
+  pub shown : List ℕ
+  pub says : Says m n es (claimFrom n (wordsIn ws)) reason shown
+  -- "It writes words of kinds 6 and 7 as the answer does", into a long enough buffer that held `old`; where it shows nothing, every buffer
+  -- is long enough and "keeps its content"
+  pub given : (old : List ℕ) → length shown ≤ length old
+      → (reasonedOf (ledgerOf s) ws old ≡ Gives reason (length shown))
+      × (shownAfter (ledgerOf s) ws old ≡ over (wordsOf (shownKind reason) shown) old)
+  -- "then 8 for a buffer too short for this reason's words"
+  pub short : (old : List ℕ) → length old < length shown → reasonedOf (ledgerOf s) ws old ≡ Reasoned·Refused 8
+
+-- Whatever the memory holds, and so after every list of calls.
+abbrev pub ReasonAlways : Type 0
+ReasonAlways =
+    (s : Sheet) (m n : ℕ) (es : List Equation) (ws : List ℕ) → ledgerOf s ≡ opened m n es → WellFormed m n ws → RightReason s m n es ws
+
+-- "The questions are those of marking": what marking turns away is turned away with the same number, on every sheet and with any buffer.
+abbrev pub SameRefusals : Type 0
+SameRefusals =
+    (s : Sheet) (ws old : List ℕ) (k : ℕ) → markedOf (ledgerOf s) ws ≡ Marked·Refused k
+    → (reasonedOf (ledgerOf s) ws old ≡ Reasoned·Refused k) × (shownAfter (ledgerOf s) ws old ≡ old)
 
 -- What the byte of a claim in words says, on a ledger that has m, n and es: "0 fail, 1 pass or the refusal number plus 100".
 pub record RightByte (m n : ℕ) (es : List Equation) (ws : List ℕ) (byte : ℕ) : Type 0 where

@@ -1,15 +1,22 @@
--- What a call that neither opens, adds nor strikes sees of a sheet, and what one of the others says that it holds. Definitions only.
+-- What a call that neither opens, adds nor strikes sees of a sheet, what one of the others says that it holds, and what is found of a claim
+-- before anything is written. Definitions only.
 use mathlib.Core.Path.{_≡_}
-use mathlib.Core.List.{List}
+use mathlib.Core.List.{List, []}
 use Prim.Native.Nat.{ℕ, _-_, _≤_}
 use lib.Dec.{T}
 use lib.ListN.{length, take}
+use Rattle.questions.specs.Questions.{unlessRefused}
 use Rattle.equations.specs.Lines.{equationsOf}
 use Rattle.system.specs.Posed.{Posed}
-use Rattle.ledger.specs.Ledger.{isOpened, equationsIn}
+use Rattle.ledger.specs.Ledger.{Ledger, isOpened, equationsIn}
+use Rattle.ledger.specs.Marking.{claimReason, reasonNumbers}
+use Rattle.ledger.specs.Calls.{marks, queries}
+use Rattle.ledger.specs.Questions.{refusalOf}
 use Rattle.asking.specs.Sees.{Sees}
 use Rattle.sheet.specs.declared.Entered.{Entered}
 use Rattle.sheet.specs.declared.Entered.the-variants.{Holds, Refused}
+use Rattle.sheet.specs.declared.reasoning.Reasoned.{Reasoned}
+use Rattle.sheet.specs.declared.reasoning.Reasoned.the-variants.{Gives, Refused as Reasoned·Refused}
 use Rattle.sheet.specs.declared.viewing.View.{View}
 use Rattle.sheet.specs.Record.{Sheet, cellsIn, ledgerOf}
 
@@ -30,3 +37,11 @@ pub record Views (s : Sheet) (view : View) : Type 0 where
 abbrev pub heldBy : Entered → ℕ
 heldBy (Holds k) = k
 heldBy (Refused k) = 0
+
+-- a claim explained: the reason and how many numbers are shown beside it, or the refusal; and these numbers
+unfoldable pub explainedOf : Ledger → List ℕ → Reasoned
+explainedOf l ws =
+    unlessRefused Reasoned·Refused (refusalOf l (queries (marks ws))) (Gives (claimReason l ws) (length (reasonNumbers l ws)))
+
+unfoldable pub explainedNumbers : Ledger → List ℕ → List ℕ
+explainedNumbers l ws = unlessRefused (λ (k : ℕ). []) (refusalOf l (queries (marks ws))) (reasonNumbers l ws)

@@ -1,4 +1,5 @@
 -- What is read off the tableau of a list of equations is the answer of the definitions.
+--   step-vector                     a vector that is read off, in the tableau's words
 --   read-start                      where the constant's pivot is m, the starting vector
 --   read-steps                      the steps at the last i places
 --   vectors-solved, vectors-none    starting vector and steps together
@@ -26,8 +27,7 @@ use Rattle.elimination.specs.Multipliers.{multipliersOf}
 use Rattle.system.specs.Block.{blockWith, blockOf}
 use Rattle.system.specs.Model.Reading.{readVector, readStep, readSteps, readVectors, vectorsWith, answerVectors}
 
--- the same vector, in the tableau's words
-step-vector : (m n i j e : ℕ) (B : List (List ℕ)) → i + suc j ≡ n → tableauStep m i j B e ≡ readVector m n B i e
+pub step-vector : (m n i j e : ℕ) (B : List (List ℕ)) → i + suc j ≡ n → tableauStep m i j B e ≡ readVector m n B i e
 unfolding tableauStep readVector
 step-vector m n i j e B h =
     let a : suc j ≡ n - i = omega arith in

@@ -14,9 +14,9 @@ use native.Mathlib.Omega.{arith}
 use lib.ListN.{length, take, drop, length-drop}
 use lib.Seq.{length-take-le, take-at, drop-at}
 use Rattle.slices.proofs.Parts.{parts-suc}
-use Rattle.equations.specs.Vectors.{Below}
+use Rattle.equations.specs.Vectors.{AllVectors, Below}
 use Rattle.equations.proofs.Vectors.{vector-length, vector-of, below-take, below-drop}
-use Rattle.equations.proofs.Listed.{AllVectors, flat-length}
+use Rattle.equations.proofs.Listed.{flat-length}
 use Rattle.elimination.proofs.Basis.{Long}
 use Rattle.tableau.specs.Lines.{linesWithin, linesOf}
 use Rattle.system.specs.Claims.{vectorsWithin, vectorsOf}

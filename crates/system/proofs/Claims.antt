@@ -1,6 +1,7 @@
 -- What lies in the list of numbers of a claim.
 --   claim-of-flat      a start with its steps, one behind the other, are found again
---   claim-described    a well-formed claim describes only vectors of n residues
+--   claim-formed       a well-formed claim's vectors are vectors of n residues,
+--   claim-described    and it describes no others
 use mathlib.Core.Path.{_≡_, refl, ap₂, _∙_, ap}
 use mathlib.Core.List.{List, [], _∷_, _++_, flatten}
 use Prim.Native.Nat.{ℕ, _<_}
@@ -8,11 +9,12 @@ use native.Mathlib.Omega.{arith}
 use lib.ListN.{length, take, drop, length-append}
 use lib.Seq.{take-at, drop-at, length-take-le}
 use lib.Dec.{T}
-use Rattle.equations.specs.Vectors.{Vector}
-use Rattle.equations.specs.Claim.{from, describes}
+use Rattle.equations.specs.Vectors.{Vector, AllVectors}
+use Rattle.equations.specs.Claim.{Claim, noSolution, from, describes}
+use Rattle.equations.specs.Reasons.{Formed}
 use Rattle.equations.proofs.Vectors.{vector-length, vector-of, below-take, below-drop}
 use Rattle.equations.proofs.Claim.{describes-nothing}
-use Rattle.equations.proofs.Listed.{AllVectors, described-vector}
+use Rattle.equations.proofs.Listed.{described-vector}
 use Rattle.system.specs.Claims.{vectorsOf, claimOf, Claimed}
 use Rattle.system.proofs.Chunks.{vectors-listed, vectors-flatten}
 use Rattle.system.proofs.Marks.{claim-front}
@@ -30,13 +32,20 @@ claim-of-flat m n c ss pos start steps =
     ∙ ap₂ from (take-at c (flatten ss) n long)
     (ap (vectorsOf n) (drop-at c (flatten ss) n long) ∙ vectors-flatten m n ss pos steps)
 
+pub claim-formed : (m n : ℕ) (claim : List ℕ) → Claimed m n claim → Formed m n (claimOf n claim)
+unfolding claimOf
+claim-formed m n [] claimed = tt
+claim-formed m n (x ∷ s) claimed =
+    let claim : List ℕ = x ∷ s in (
+      vector-of m n (take n claim) (length-take-le n claim (claim-front m n claim claimed (λ h. omega arith)))
+          (below-take m n claim (claimed .residues)),
+      vectors-listed m n (drop n claim) (below-drop m n claim (claimed .residues)),
+    )
+
+formed-described : (m n : ℕ) → 0 < m → (claim : Claim) → Formed m n claim → (v : List ℕ) → T (describes m claim v) → Vector m n v
+formed-described m n pos noSolution formed v t = absurd (describes-nothing m v t)
+formed-described m n pos (from c ss) formed v t = described-vector m n pos c (formed .0) ss (formed .1) v t
+
 pub claim-described : (m n : ℕ) (claim : List ℕ) → 0 < m → Claimed m n claim → (v : List ℕ)
     → T (describes m (claimOf n claim) v) → Vector m n v
-unfolding claimOf
-claim-described m n [] pos claimed v t = absurd (describes-nothing m v t)
-claim-described m n (x ∷ s) pos claimed v t =
-    let claim : List ℕ = x ∷ s in
-    described-vector m n pos (take n claim)
-    (vector-of m n (take n claim)
-    (length-take-le n claim (claim-front m n claim claimed (λ h. omega arith))) (below-take m n claim (claimed .residues)))
-    (vectorsOf n (drop n claim)) (vectors-listed m n (drop n claim) (below-drop m n claim (claimed .residues))) v t
+claim-described m n claim pos claimed = formed-described m n pos (claimOf n claim) (claim-formed m n claim claimed)

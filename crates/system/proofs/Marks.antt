@@ -1,5 +1,7 @@
 -- The outcome of a marking, from the outcomes of its parts.
 --   claim-front                  a claim that is not empty has a first vector
+--   claim-of-none, claim-of-some what it claims, by its length
+--   start-right, steps-right     start and steps by the first equation and the first step that are named
 --   solves-none                  what a claim describes solves the equations: the empty one does,
 --   start-fails, start-solves    any other one by its start and its steps
 --   misses-none, misses-some     and it misses no solution
@@ -14,12 +16,15 @@ use native.Mathlib.Omega.{arith}
 use lib.ListN.{length, take}
 use lib.Seq.{length-take-le}
 use lib.Dec.{eqb}
-use borrow.Author.Tests.{eqb-true, eqb-false}
+use borrow.Author.Tests.{eqb-true, eqb-false, eq-eqb, ne-eqb}
 use Rattle.slices.proofs.Parts.{lent, lent-is}
 use Rattle.equations.specs.Lists.{every}
-use Rattle.equations.specs.Equation.{Equation, solves, homogeneous}
+use Rattle.equations.specs.Equation.{Equation, solves}
 use Rattle.equations.specs.Claim.{Claim, noSolution, from, passes}
+use Rattle.equations.specs.Reasons.{brokenAt, keeps, changedStep}
 use Rattle.equations.proofs.Truth.{true-or-false}
+use Rattle.equations.proofs.Fails.{fails-none}
+use Rattle.equations.proofs.Reasons.{broken-none}
 use Rattle.equations.proofs.Vectors.{vector-of, below-take}
 use Rattle.elimination.specs.Basis.{basis, pivot}
 use Rattle.elimination.specs.Tableau.{tableau}
@@ -47,34 +52,51 @@ claim-front m n claim c some = ⊎-elim none more (eq-zero-or-pos (length claim 
               (omega arith),
         )
 
-claim-of-none : (n : ℕ) (claim : List ℕ) → length claim ≡ 0 → claimOf n claim ≡ noSolution
+pub claim-of-none : (n : ℕ) (claim : List ℕ) → length claim ≡ 0 → claimOf n claim ≡ noSolution
 unfolding claimOf
 claim-of-none n [] h = refl
 claim-of-none n (x ∷ s) h = absurd (omega arith)
 
 -- the steps as they are lent
-claim-of-some : (n : ℕ) (claim : List ℕ) → (length claim ≡ 0 → ⊥)
+pub claim-of-some : (n : ℕ) (claim : List ℕ) → (length claim ≡ 0 → ⊥)
     → from (take n claim) (vectorsOf n (lent n claim)) ≡ claimOf n claim
 unfolding claimOf
 claim-of-some n [] h = absurd (h refl)
 claim-of-some n (x ∷ s) h = ap (λ (r : List ℕ). from (take n (x ∷ s)) (vectorsOf n r)) (lent-is n (x ∷ s))
 
+-- i is the first equation that v breaks, and j the first step that changes one
+module _ (m : ℕ) (es : List Equation) where
+  start-is : (v : List ℕ) (i : ℕ) → i ≡ brokenAt m es v → (a : Bool) → eqb i 0 ≡ a → solves m es v ≡ a
+  start-is v i is a t = sym (broken-none m es v) ∙ ap (λ (z : ℕ). eqb z 0) (sym is) ∙ t
+
+  pub start-right : (v : List ℕ) (i : ℕ) → i ≡ brokenAt m es v → i ≡ 0 → solves m es v ≡ true
+  start-right v i is z = start-is v i is true (eq-eqb i 0 z)
+
+  steps-are : (ss : List (List ℕ)) (j : ℕ) → j ≡ changedStep m es ss → (a : Bool) → eqb j 0 ≡ a → every (keeps m es) ss ≡ a
+  steps-are ss j is a t = sym (fails-none (keeps m es) ss) ∙ ap (λ (z : ℕ). eqb z 0) (sym is) ∙ t
+
+  pub steps-right : (ss : List (List ℕ)) (j : ℕ) → j ≡ changedStep m es ss → j ≡ 0 → every (keeps m es) ss ≡ true
+  steps-right ss j is z = steps-are ss j is true (eq-eqb j 0 z)
+
 module _ (m n : ℕ) (claim : List ℕ) where
   pub solves-none : (es : List Equation) → length claim ≡ 0 → true ≡ claimSolves m es (claimOf n claim)
   solves-none es none = sym (ap (claimSolves m es) (claim-of-none n claim none))
 
-  -- a and b are the outcomes for the start and for the steps; b is asked where a holds
-  module _ (es : List Equation) (some : length claim ≡ 0 → ⊥) (a : Bool) (start : a ≡ solves m es (take n claim)) where
-    parts : (b : Bool) → b ≡ every (solves m (homogeneous es)) (vectorsOf n (lent n claim))
+  -- of the start and of the steps: j is asked where i is 0
+  module _ (es : List Equation) (some : length claim ≡ 0 → ⊥) (i : ℕ) (start : i ≡ brokenAt m es (take n claim)) where
+    abbrev steps : List (List ℕ)
+    steps = vectorsOf n (lent n claim)
+
+    parts : (a b : Bool) → solves m es (take n claim) ≡ a → every (keeps m es) steps ≡ b
         → a && b ≡ claimSolves m es (claimOf n claim)
-    parts b steps = ap₂ (λ (x y : Bool). x && y) start steps ∙ ap (claimSolves m es) (claim-of-some n claim some)
+    parts a b e f = sym (ap₂ (λ (x y : Bool). x && y) e f) ∙ ap (claimSolves m es) (claim-of-some n claim some)
 
-    pub start-fails : a ≡ false → a ≡ claimSolves m es (claimOf n claim)
-    start-fails f = f ∙ ap (λ (x : Bool). x && every (solves m (homogeneous es)) (vectorsOf n (lent n claim))) (sym f) ∙ parts _ refl
+    pub start-fails : (i ≡ 0 → ⊥) → false ≡ claimSolves m es (claimOf n claim)
+    start-fails f = parts false _ (start-is m es (take n claim) i start false (ne-eqb i 0 f)) refl
 
-    pub start-solves : a ≡ true → (b : Bool) → b ≡ every (solves m (homogeneous es)) (vectorsOf n (lent n claim))
-        → b ≡ claimSolves m es (claimOf n claim)
-    start-solves t b steps = ap (λ (x : Bool). x && b) (sym t) ∙ parts b steps
+    pub start-solves : i ≡ 0 → (j : ℕ) → j ≡ changedStep m es (vectorsOf n (lent n claim))
+        → eqb j 0 ≡ claimSolves m es (claimOf n claim)
+    start-solves t j is = parts true (eqb j 0) (start-right m es (take n claim) i start t) (steps-are m es steps j is (eqb j 0) refl)
 
   module _ (B : List (List ℕ)) (r : Bool) where
     pub misses-none : length claim ≡ 0 → r ≡ not (eqb (pivot n B) m) → r ≡ missesNone m n B (claimOf n claim)

@@ -18,7 +18,7 @@ use Rattle.tableau.specs.Packed.{rows, triangle, Kept}
 use Rattle.tableau.proofs.Packed.{triangle-front}
 use Rattle.tableau.proofs.Column.{row-head}
 use Rattle.tableau.proofs.Walk.{kept-front}
-use Rattle.system.specs.Model.Marking.{basisRoom, Prepared}
+use Rattle.system.specs.Model.Marking.{basisRoom, Based, Prepared}
 use Rattle.system.specs.Ready.{Ready}
 use Rattle.system.specs.Ready.Kept.{ready-is}
 use Rattle.system.proofs.Fronts.{front-within, front-zeros, rows-alone}
@@ -66,18 +66,23 @@ module _ (m n : ℕ) (lines s : List ℕ) where
           subst (λ (d : ℕ). 0 < d) (getD-take (n + 1 + 0) p 0 0 (omega arith))
           (row-head m (take (n + 1 + 0) p) (omega (arith, row)) (kept-front m (n + 1) (n + 1 + 0) p (omega arith) kept) .0)
 
-      pub prepared : Prepared m n lines (p ++ drop size s)
-      prepared =
+      based : 1 < m → Based m n lines p
+      based modulus =
+          let e : n + 1 + 0 ≡ n + 1 = omega arith in
+          record {
+            readable = record { modulus = modulus; unknowns = few; size = long; kept = rw e at kept };
+            rows = rows-alone (n + 1) (n + 1) p (tableau m n 0 (equationsOf n lines)) built;
+          }
+
+      pub prepared : 1 < m → Prepared m n lines (p ++ drop size s)
+      prepared modulus =
           record {
             size =
                 length-append p (drop size s)
                 ∙ omega (arith, long, is, length-drop size s, room-within, ready-size ready);
             there = subst (λ (d : ℕ). 0 < d) (sym (List·getD-append p (drop size s) 0 0 (omega (arith, first-fits)))) first;
-            basis =
-                ap (rows (n + 1) (n + 1)) (take-at p (drop size s) (triangle (n + 1) (n + 1)) long)
-                ∙ rows-alone (n + 1) (n + 1) p (tableau m n 0 (equationsOf n lines)) built;
+            basis = subst (Based m n lines) (sym (take-at p (drop size s) (triangle (n + 1) (n + 1)) long)) (based modulus);
           }
 
-  pub prepared-front : (there : Prepared m n lines s) (size : ℕ) → size ≡ triangle (n + 1) (n + 1)
-      → rows (n + 1) (n + 1) (take size s) ≡ tableau m n 0 (equationsOf n lines)
-  prepared-front there size is = ap (λ (k : ℕ). rows (n + 1) (n + 1) (take k s)) is ∙ there .basis
+  pub prepared-front : (there : Prepared m n lines s) (size : ℕ) → size ≡ triangle (n + 1) (n + 1) → Based m n lines (take size s)
+  prepared-front there size is = subst (λ (k : ℕ). Based m n lines (take k s)) (sym is) (there .basis)

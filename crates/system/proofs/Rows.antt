@@ -1,5 +1,6 @@
 -- Where the rows of a packed basis lie.
 --   triangle-closed   i rows, the first of l numbers, as a product
+--   rows-count        how many rows there are
 --   triangle-within   the next row begins in the list
 --   pivot-rows        and its first number is its pivot
 --   pivot-kept        which is not 0
@@ -30,6 +31,10 @@ triangle-closed i l h = div-eq-of-eq-mul-right (omega arith) (product (2 * l + 1
   where
     product : (k : ℕ) → k + i ≡ 2 * l + 1 → i * k ≡ 2 * triangle i l
     product k e = omega (arith, triangle-twice i l h, ap (λ (z : ℕ). i * z) e)
+
+pub rows-count : (w l : ℕ) (s : List ℕ) → length (rows w l s) ≡ w
+rows-count zero l s = refl
+rows-count (suc w) l s = ap suc (rows-count w (pred l) (drop l s))
 
 pub triangle-within : (w i l : ℕ) → i < w → w ≤ l → triangle i l < triangle w l
 triangle-within zero i l h g = absurd (omega arith)

@@ -2,7 +2,7 @@
 -- Definitions only.
 use mathlib.Core.Path.{_≡_}
 use mathlib.Core.List.{List, [], _∷_}
-use Prim.Native.Nat.{ℕ, zero, suc, _/_, _%_}
+use Prim.Native.Nat.{ℕ, zero, suc, _*_, _/_, _%_, _≤_}
 use lib.ListN.{length, take, drop}
 use Rattle.equations.specs.Claim.{Claim, noSolution, from}
 use Rattle.equations.specs.Vectors.{Below}
@@ -22,8 +22,8 @@ unfoldable pub claimOf : ℕ → List ℕ → Claim
 claimOf n [] = noSolution
 claimOf n (x ∷ s) = from (take n (x ∷ s)) (vectorsOf n (drop n (x ∷ s)))
 
--- "It is well-formed if its shape is right and its entries are below m." How many
--- vectors there are, does not matter here.
+-- "It is well-formed if its shape is right and its entries are below m."
 pub record Claimed (m n : ℕ) (claim : List ℕ) : Type 0 where
   pub whole : length claim % n ≡ 0
+  pub vectors : length claim ≤ 17 * n
   pub residues : Below m claim

@@ -1,8 +1,9 @@
 -- What an answer to a list of equations is, number for number, and how a claim lies in a list of numbers. Read in this
--- order: Posed, Block, Claims, Ready, Promises. Model is for the code's own proofs.
+-- order: Posed, Block, Claims, Reasons, Ready, Promises. Model is for the code's own proofs.
 pub mod Posed
 pub mod Block
 pub mod Claims
 pub mod Ready
 pub mod Promises
+pub mod Reasons
 pub mod Model

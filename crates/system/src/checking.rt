@@ -1,56 +1,78 @@
-// Do vectors solve a list of lines?
+// Which lines do vectors not solve? Lines and steps have the numbers 1, 2, ..
 ghost use mathlib.Core.Path.{_≡_};
-ghost use mathlib.Core.Bool.{cond};
-ghost use Prim.Native.Nat.{_<_, _≤_};
+ghost use Prim.Native.Nat.{_*_, _≤_};
 ghost use lib.ListN.{length};
 ghost use Rattle.equations.specs.Vectors.{Below};
-ghost use Rattle.equations.specs.Lists.{every};
-ghost use Rattle.equations.specs.Equation.{solves, homogeneous};
 ghost use Rattle.equations.specs.Lines.{equationsOf};
+ghost use Rattle.equations.specs.Reasons.{brokenAt, changedStep, changedLine};
+ghost use Rattle.system.specs.Posed.{Posed};
 ghost use Rattle.system.specs.Claims.{Claimed, claimOf, vectorsOf};
 ghost use Rattle.system.specs.Model.Marking.{claimSolves};
 use tableau::products::sum;
 
-// Whether v solves all the lines, with their right sides put to 0 where `zeroed` says so.
-fn solves_all(m: u32, n: usize, lines: &[u32], v: &[u32], zeroed: bool) -> bool
-    requires { ⌜ (0 < m) × (n ≤ 16) × (length (now v) ≡ n) × Below m (now lines) × Below m (now v) ⌝ }
-    ensures { λ r. ⌜ r ≡ solves m (cond zeroed (homogeneous (equationsOf n (now (lines .entry))))
-        (equationsOf n (now (lines .entry)))) (now (v .entry)) ⌝ }
+// A step that changes a line's left side, and this line; 0 and 0 where no step does.
+pub(crate) struct Change {
+    pub step: u32,
+    pub line: u32,
+}
+
+// The first line that v does not solve; 0 where it solves them all.
+pub(crate) fn first_broken(m: u32, n: usize, lines: &[u32], v: &[u32]) -> u32
+    requires { ⌜ Posed m n (now lines) × (length (now v) ≡ n) × Below m (now v) ⌝ }
+    ensures { λ r. ⌜ r ≡ brokenAt m (equationsOf n (now (lines .entry))) (now (v .entry)) ⌝ }
 {
     let mut rest = &lines[..];
+    let mut e: u32 = 0;
     while n < rest.len() {
-        let right = if zeroed { 0 } else { rest[n] };
-        if sum(&rest[..n], v, m) != right {
-            return false;
+        if sum(&rest[..n], v, m) != rest[n] {
+            return e + 1;
         }
         rest = &rest[n + 1..];
+        e += 1;
     }
-    true
+    0
 }
 
-// Whether every step solves the lines with their right sides put to 0.
-fn steps_solve(m: u32, n: usize, lines: &[u32], steps: &[u32]) -> bool
-    requires { ⌜ (0 < m) × (0 < n) × (n ≤ 16) × Below m (now lines) × Below m (now steps) ⌝ }
-    ensures { λ r. ⌜ r ≡ every (solves m (homogeneous (equationsOf n (now (lines .entry)))))
-        (vectorsOf n (now (steps .entry))) ⌝ }
+// The first step that changes a left side, and the first line whose left side it changes. Both loops are left at that pair.
+pub(crate) fn first_change(m: u32, n: usize, lines: &[u32], steps: &[u32]) -> Change
+    requires { ⌜ Posed m n (now lines) × Below m (now steps) × (length (now steps) ≤ 17 * n) ⌝ }
+    ensures { λ r. ⌜ (r .step ≡ changedStep m (equationsOf n (now (lines .entry))) (vectorsOf n (now (steps .entry))))
+        × (r .line ≡ changedLine m (equationsOf n (now (lines .entry))) (vectorsOf n (now (steps .entry)))) ⌝ }
 {
+    let mut out = Change { step: 0, line: 0 };
     let mut rest = &steps[..];
-    while n <= rest.len() {
-        if !solves_all(m, n, lines, &rest[..n], true) {
-            return false;
+    let mut i: u32 = 0;
+    'steps: while n <= rest.len() {
+        let mut left = &lines[..];
+        let mut e: u32 = 0;
+        while n < left.len() {
+            if sum(&left[..n], &rest[..n], m) != 0 {
+                out = Change {
+                    step: i + 1,
+                    line: e + 1,
+                };
+                break 'steps;
+            }
+            left = &left[n + 1..];
+            e += 1;
         }
         rest = &rest[n..];
+        i += 1;
     }
-    true
+    out
 }
 
-// Whether all that a claim describes solves the lines: its start does, and each step with the right sides put to 0.
+// Whether all that a claim describes solves the lines: its start does, and no step changes a left side.
 pub(crate) fn claim_solves(m: u32, n: usize, lines: &[u32], claim: &[u32]) -> bool
-    requires { ⌜ (0 < m) × (0 < n) × (n ≤ 16) × Below m (now lines) × Claimed m n (now claim) ⌝ }
+    requires { ⌜ Posed m n (now lines) × Claimed m n (now claim) ⌝ }
     ensures { λ r. ⌜ r ≡ claimSolves m (equationsOf n (now (lines .entry))) (claimOf n (now (claim .entry))) ⌝ }
 {
     if claim.len() == 0 {
         return true;
     }
-    solves_all(m, n, lines, &claim[..n], false) && steps_solve(m, n, lines, &claim[n..])
+    if first_broken(m, n, lines, &claim[..n]) != 0 {
+        return false;
+    }
+    let change = first_change(m, n, lines, &claim[n..]);
+    change.step == 0
 }

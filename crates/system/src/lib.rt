@@ -1,5 +1,8 @@
-// Answers to lists of equations over the residues, as document 01 defines them, and the marking of claims.
+// Answers to lists of equations over the residues, as document 01 defines them, the marking of claims, and the
+// reasons why they fail.
 mod checking;
+pub mod explaining;
+mod finding;
 mod keeping;
 pub mod limits;
 pub mod marking;

@@ -1,14 +1,17 @@
 // What is read off a basis of equations in n unknowns, whose rows lie packed with no carried column.
 ghost use mathlib.Core.Path.{_≡_};
 ghost use mathlib.Core.List.{[]};
-ghost use Prim.Native.Nat.{ℕ, _+_, _*_, _<_, _≤_};
+ghost use Prim.Native.Nat.{ℕ, _+_, _-_, _*_, _<_, _≤_};
 ghost use lib.ListN.{length};
 ghost use Rattle.equations.specs.Answer.{andThen};
+ghost use Rattle.equations.specs.Vectors.{Below};
 ghost use Rattle.elimination.specs.Basis.{pivot};
+ghost use Rattle.elimination.specs.Missed.{shiftedAt};
 ghost use Rattle.tableau.specs.Packed.{rows, triangle};
 ghost use Rattle.system.specs.Model.Reading.{rowsIn, Readable, Laid, readVector, readStep, readSteps, readVectors};
 use crate::limits::LINE;
 use tableau::filling::turn;
+use tableau::line::add_row;
 use tableau::substitution::extend;
 
 // How many numbers w packed rows are, the first of l numbers: l + (l - 1) + ..
@@ -40,6 +43,14 @@ fn vector_into(basis: &[u32], out: &mut [u32], m: u32, n: usize, i: usize, e: u3
     extend(basis, &mut x[..used], m, i, n - i, size);
     let w = n + 1;
     turn(&x[..w], out);
+}
+
+// The starting vector: the constant is 1.
+pub(crate) fn start_into(basis: &[u32], out: &mut [u32], m: u32, n: usize)
+    requires { ⌜ Readable m n (now basis) × (length (now out) ≡ n) ⌝ }
+    ensures { λ _. ⌜ now (out .exit) ≡ readVector m n (rowsIn n (now (basis .entry))) n 1 ⌝ }
+{
+    vector_into(basis, out, m, n, n, 1);
 }
 
 // The step of column i, if it has one; the number of steps written.
@@ -78,7 +89,26 @@ pub(crate) fn vectors_into(basis: &[u32], out: &mut [u32], m: u32, n: usize) -> 
     requires { ⌜ Readable m n (now basis) × (n + n * n ≤ length (now out)) ⌝ }
     ensures { λ r. ⌜ (r ≤ n + 1) × Laid n (readVectors m n (rowsIn n (now (basis .entry)))) (now (out .entry)) (now (out .exit)) r ⌝ }
 {
-    vector_into(basis, &mut out[..n], m, n, n, 1);
+    start_into(basis, &mut out[..n], m, n);
     let steps = steps_into(basis, &mut out[n..], m, n);
     steps + 1
+}
+
+// The start plus the step at this place, which is counted from 1 and has one.
+pub(crate) fn missed_into(
+    basis: &[u32],
+    start: &[u32],
+    out: &mut [u32],
+    m: u32,
+    n: usize,
+    place: usize,
+)
+    requires { ⌜ Readable m n (now basis) × (length (now start) ≡ n) × Below m (now start) × (length (now out) ≡ n) ⌝ }
+    requires { ⌜ (0 < place) × (place ≤ n) × (1 < pivot (n - place) (rowsIn n (now basis))) ⌝ }
+    ensures { λ _. ⌜ now (out .exit) ≡ shiftedAt m n (rowsIn n (now (basis .entry))) (now (start .entry)) place ⌝ }
+{
+    let i = n - place;
+    let pivot = pivot_at(basis, i, n + 1);
+    vector_into(basis, out, m, n, i, m / pivot);
+    add_row(start, out, m);
 }

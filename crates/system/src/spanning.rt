@@ -5,7 +5,7 @@ ghost use lib.ListN.{length, replicate};
 ghost use lib.Dec.{eqb};
 ghost use Rattle.equations.specs.Vectors.{Below};
 ghost use Rattle.elimination.specs.Basis.{basis as basisOf};
-ghost use Rattle.elimination.specs.Marking.{agree};
+ghost use Rattle.elimination.specs.Missed.{apart};
 ghost use Rattle.tableau.specs.Packed.{rows, triangle};
 ghost use Rattle.system.specs.Claims.{vectorsOf, claimOf, Claimed};
 ghost use Rattle.system.specs.Model.Marking.{missesNone};
@@ -25,19 +25,19 @@ pub(crate) fn misses_none(m: u32, n: usize, equations: &[u32], claim: &[u32]) ->
     if claim.len() == 0 {
         return pivot_at(equations, n, n + 1) != m;
     }
-    reaches(m, n, equations, &claim[n..])
+    missing(m, n, equations, &claim[n..]) == 0
 }
 
-// Whether no step is missing.
-fn reaches(m: u32, n: usize, equations: &[u32], steps: &[u32]) -> bool
+// The last place at which a step is missing, counted from 1; 0 where none is.
+pub(crate) fn missing(m: u32, n: usize, equations: &[u32], steps: &[u32]) -> usize
     requires { ⌜ (0 < m) × (0 < n) × (n ≤ 16) × (length (now equations) ≡ triangle (n + 1) (n + 1)) × Below m (now steps) ⌝ }
-    ensures { λ r. ⌜ r ≡ agree m n (rows (n + 1) (n + 1) (now (equations .entry)))
+    ensures { λ r. ⌜ r ≡ apart m n (rows (n + 1) (n + 1) (now (equations .entry)))
         (basisOf m n 0 (vectorsOf n (now (steps .entry)))) ⌝ }
 {
     let mut rows = [0u32; BASIS];
     let size = packed_size(n, n);
     span(&mut rows[..size], steps, m, n);
-    agree(m, n, equations, &rows[..size])
+    apart(m, n, equations, &rows[..size])
 }
 
 // The basis of the steps, as lines of n columns: a step is as long as a line in n - 1 unknowns.
@@ -48,10 +48,11 @@ fn span(basis: &mut [u32], steps: &[u32], m: u32, n: usize)
     fill(basis, steps, m, n - 1, 0, true);
 }
 
-// Whether at each place the pivots of the two bases multiply to m: no step is missing then.
-fn agree(m: u32, n: usize, equations: &[u32], steps: &[u32]) -> bool
+// The last place at which the pivots of the two bases do not multiply to m, counted from 1; 0 where they do at each. A step is
+// missing there.
+fn apart(m: u32, n: usize, equations: &[u32], steps: &[u32]) -> usize
     requires { ⌜ (n ≤ 16) × (length (now equations) ≡ triangle (n + 1) (n + 1)) × (length (now steps) ≡ triangle n n) ⌝ }
-    ensures { λ r. ⌜ r ≡ agree m n (rows (n + 1) (n + 1) (now (equations .entry))) (rows n n (now (steps .entry))) ⌝ }
+    ensures { λ r. ⌜ r ≡ apart m n (rows (n + 1) (n + 1) (now (equations .entry))) (rows n n (now (steps .entry))) ⌝ }
 {
     let mut j = n;
     while j > 0 {
@@ -59,10 +60,10 @@ fn agree(m: u32, n: usize, equations: &[u32], steps: &[u32]) -> bool
         let of_step = pivot_at(steps, j, n);
         let of_equation = pivot_at(equations, n - 1 - j, n + 1);
         if !product_is(of_step, of_equation, m) {
-            return false;
+            return j + 1;
         }
     }
-    true
+    0
 }
 
 fn product_is(a: u32, b: u32, m: u32) -> bool

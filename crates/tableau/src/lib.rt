@@ -2,6 +2,6 @@
 pub mod building;
 pub mod filling;
 mod insertion;
-mod line;
+pub mod line;
 pub mod products;
 pub mod substitution;

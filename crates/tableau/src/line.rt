@@ -6,9 +6,23 @@ ghost use lib.ListN.{length};
 ghost use Rattle.residue.specs.Inverse.{inverseOf};
 ghost use Rattle.residue.specs.Negative.{negative};
 ghost use Rattle.equations.specs.Vectors.{combine, Below};
+use residue::modular::add;
 use residue::modular::combine_by;
 use residue::modular::mul_by;
 use residue::modular::reciprocal;
+
+// line ← row + line.
+pub fn add_row(row: &[u32], line: &mut [u32], m: u32)
+    requires { ⌜ (length (now row) ≡ length (now line)) × Below m (now row) × Below m (now line) ⌝ }
+    ensures { λ _. ⌜ now (line .exit) ≡ combine m 1 1 (now (row .entry)) (now (line .entry)) ⌝ }
+{
+    let mut i = 0;
+    while i < line.len() {
+        let sum = add(row[i], line[i], m);
+        line[i] = sum;
+        i += 1;
+    }
+}
 
 // p·a - b for a factor p with its reciprocal u.
 fn minus(p: u32, u: u32, a: u32, b: u32, m: u32) -> u32

@@ -13,7 +13,7 @@ use Rattle.system.specs.Claims.{vectorsWithin}
 use Rattle.ledger.specs.Ledger.{Ledger, unopened, modulusOf, unknownsOf, equationsIn}
 use Rattle.ledger.specs.Shapes.{numberAt}
 use Rattle.ledger.specs.Marking.{claimMark}
-use Rattle.ledger.specs.Calls.{Entry, opens, adds, types, strikes, answers, answersFromTape, marks, classes, meaningless}
+use Rattle.ledger.specs.Calls.{Entry, opens, adds, types, strikes, answers, answersFromTape, marks, reasons, classes, meaningless}
 use Rattle.ledger.specs.Calls.{Call, enters, queries}
 use Rattle.ledger.specs.Questions.{refusalOf}
 use Rattle.ledger.specs.History.{enter}
@@ -58,7 +58,8 @@ acceptedLines l (enters (strikes number)) = line "struck" (heldAfter l (strikes 
 acceptedLines l (queries (answers buffer)) = answerLines l
 acceptedLines l (queries (answersFromTape w)) = answerLines l
 acceptedLines l (queries (marks ws)) = markLine (claimMark l ws)
--- a class has no words on tape
+-- a reason and a class have no words on tape
+acceptedLines l (queries (reasons ws buffer)) = []
 acceptedLines l (queries (classes ws bytes)) = []
 -- it is never accepted
 acceptedLines l (queries (meaningless w)) = []

@@ -1,19 +1,24 @@
--- How a claim is marked, in two parts, and what is kept of the equations from one claim to the next. Definitions only.
+-- How a claim is marked, in two parts, what is kept of the equations from one claim to the next, and what is found where a start breaks one.
+-- Definitions only.
 use mathlib.Core.Path.{_≡_}
-use mathlib.Core.Bool.{Bool, true, _&&_, not}
-use mathlib.Core.List.{List}
+use mathlib.Core.Bool.{Bool, true, cond, _&&_, not}
+use mathlib.Core.List.{List, []}
 use Prim.Native.Nat.{ℕ, _+_, _<_}
 use lib.Dec.{eqb}
 use lib.ListN.{length, take, getD}
+use Rattle.equations.specs.declared.Reason.{Reason}
+use Rattle.equations.specs.declared.Reason.the-variants.{Unsolvable, Breaks}
 use Rattle.equations.specs.Lists.{every}
 use Rattle.equations.specs.Equation.{Equation, solves, homogeneous}
 use Rattle.equations.specs.Lines.{equationsOf}
 use Rattle.equations.specs.Claim.{Claim, noSolution, from}
+use Rattle.equations.specs.Reasons.{hasSolution}
 use Rattle.elimination.specs.Basis.{basis, pivot}
 use Rattle.elimination.specs.Tableau.{tableau}
+use Rattle.elimination.specs.Multipliers.{multipliersOf}
 use Rattle.elimination.specs.Marking.{agree}
 use Rattle.tableau.specs.Packed.{triangle}
-use Rattle.system.specs.Model.Reading.{rowsIn}
+use Rattle.system.specs.Model.Reading.{rowsIn, Readable}
 
 -- room for the packed rows of 17 columns
 abbrev pub basisRoom : ℕ
@@ -29,8 +34,20 @@ abbrev pub missesNone : ℕ → ℕ → List (List ℕ) → Claim → Bool
 missesNone m n B noSolution = not (eqb (pivot n B) m)
 missesNone m n B (from start steps) = agree m n B (basis m n 0 steps)
 
--- s holds the basis of the lines in its front; no pivot is 0
+-- s is the basis of the lines
+pub record Based (m n : ℕ) (lines s : List ℕ) : Type 0 where
+  pub readable : Readable m n s
+  pub rows : rowsIn n s ≡ tableau m n 0 (equationsOf n lines)
+
+-- s holds it in its front; no pivot is 0
 pub record Prepared (m n : ℕ) (lines s : List ℕ) : Type 0 where
   pub size : length s ≡ basisRoom
   pub there : 0 < getD s 0 0
-  pub basis : rowsIn n (take (triangle (n + 1) (n + 1)) s) ≡ tableau m n 0 (equationsOf n lines)
+  pub basis : Based m n lines (take (triangle (n + 1) (n + 1)) s)
+
+-- the start breaks the equation i: the reason, and the numbers that are shown
+abbrev pub brokenReason : ℕ → ℕ → List Equation → ℕ → Reason
+brokenReason m n es i = cond (hasSolution m n es) (Breaks i) Unsolvable
+
+abbrev pub brokenShown : ℕ → ℕ → List Equation → List ℕ
+brokenShown m n es = cond (hasSolution m n es) [] (multipliersOf m n es)

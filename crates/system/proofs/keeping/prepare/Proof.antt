@@ -60,7 +60,7 @@ returns c =
     let size = c .before .before .before .before .packed-size in
     let b = c .before .before .build in
     prepared (a .m) (a .n) (now (a .lines)) (now (a .rows)) (z .pre .0 .unknowns) (z .pre .1) (size .result) (size .ensures) (b .last .0)
-    (b .kept .0) (b .ensures .0) (b .ensures .1)
+    (b .kept .0) (b .ensures .0) (b .ensures .1) (z .pre .0 .modulus)
 
 returns-2 : tie.Need-returns-2
 returns-2 c =

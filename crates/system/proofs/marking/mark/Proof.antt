@@ -13,8 +13,7 @@ use Rattle.system.proofs.marking.mark.Tie as tie
 claim-solves-requires : tie.Need-claim-solves-requires
 claim-solves-requires c κs =
     let z = c .before .before .before in
-    let posed = z .pre .0 in
-    (omega (arith, posed .modulus), posed .hasUnknowns, posed .unknowns, posed .residues, z .pre .2)
+    (z .pre .0, z .pre .2)
 
 returns : tie.Need-returns
 returns c =
@@ -81,7 +80,7 @@ returns-2 c =
     let second = c .misses-none in (
       solved (a .m) (a .n) (now (a .lines)) (now (a .claim)) (z .pre .0) (z .pre .2) (first .result) (first .ensures)
           (not-false _ (c .before .before .before .before .before .before .before .if1 .left)) _
-          (prepared-front (a .m) (a .n) (now (a .lines)) _ there (size .result) (size .ensures)) (second .result) (second .ensures),
+          (prepared-front (a .m) (a .n) (now (a .lines)) _ there (size .result) (size .ensures) .rows) (second .result) (second .ensures),
       prepared-ready _ _ _ _ there,
     )
 

@@ -19,19 +19,19 @@ start-then-steps : (m n r : ℕ) (B : List (List ℕ)) (v old : List ℕ) {p : L
 unfolding readVectors
 start-then-steps m n r B v old h e w = rw (← e) (laid-cons n r v old (readSteps m n B n) h w)
 
-slice-relend-prefix-vector-into : tie.Need-slice-relend-prefix-vector-into
-slice-relend-prefix-vector-into c = search needs
+slice-relend-prefix-start-into : tie.Need-slice-relend-prefix-start-into
+slice-relend-prefix-start-into c = search needs
 
-slice-aggregate-vector-into : tie.Need-slice-aggregate-vector-into
-slice-aggregate-vector-into c =
+slice-aggregate-start-into : tie.Need-slice-aggregate-start-into
+slice-aggregate-start-into c =
     let a = c .before .before .before .args in
     sym (length-take-le (a .n) (a .out .now) (omega arith))
 
-vector-into-requires : tie.Need-vector-into-requires
-vector-into-requires c κs =
+start-into-requires : tie.Need-start-into-requires
+start-into-requires c κs =
     let z = c .before .before .before in
     let a = z .args in
-    (z .pre .0, length-take-le (a .n) (a .out .now) (omega arith), omega arith, omega (arith, z .pre .0 .modulus))
+    (z .pre .0, length-take-le (a .n) (a .out .now) (omega arith))
 
 mul-steps-into : tie.Need-mul-steps-into
 mul-steps-into c = search needs
@@ -58,7 +58,7 @@ returns : tie.Need-returns
 returns c =
     let z = c .before .before .before .before .before .before .before .before .before .before in
     let a = z .args in
-    let v = c .before .before .before .before .before .before .vector-into in
+    let v = c .before .before .before .before .before .before .start-into in
     let s = c .before .before .steps-into in
     let e = v .kept .1 .0 ∙ length-take-le (a .n) (a .out .now) (omega arith) in (
       omega (arith, s .ensures .0),
@@ -70,9 +70,9 @@ pub vectors-into-spec : {M : Type 1} → statement M
 vectors-into-spec =
     tie.close
     (tie.spec
-    slice-relend-prefix-vector-into
-    slice-aggregate-vector-into
-    vector-into-requires
+    slice-relend-prefix-start-into
+    slice-aggregate-start-into
+    start-into-requires
     mul-steps-into
     sub-steps-into
     part-steps-into-start

@@ -9,6 +9,7 @@ use denote.Ref.{now}
 use Rattle.tableau.specs.Packed.{rows}
 use Rattle.tableau.proofs.Lines.{below-lent}
 use Rattle.system.proofs.Rows.{triangle-within}
+use Rattle.system.proofs.Pivots.{agree-of-apart}
 use Rattle.system.proofs.Marks.{claim-front, misses-none, misses-some}
 use Rattle.system.proofs.spanning.misses_none.Statement.{statement}
 use Rattle.system.proofs.spanning.misses_none.Tie as tie
@@ -27,30 +28,30 @@ returns c =
     misses-none (a .m) (a .n) (now (a .claim)) (rows (a .n + 1) (a .n + 1) (now (a .equations))) _ (c .before .if1 .taken)
     (ap (λ (d : ℕ). not (eqb d (a .m))) (c .pivot-at .ensures (a .n + 1) (omega arith)))
 
-mul-reaches : tie.Need-mul-reaches
-mul-reaches c = search needs
+mul-missing : tie.Need-mul-missing
+mul-missing c = search needs
 
-sub-reaches : tie.Need-sub-reaches
-sub-reaches c =
+sub-missing : tie.Need-sub-missing
+sub-missing c =
     let z = c .before .before .before in
     claim-front (z .args .m) (z .args .n) (now (z .args .claim)) (z .pre .4) (c .if1 .left)
 
-part-reaches-start : tie.Need-part-reaches-start
-part-reaches-start c = sub-reaches c
+part-missing-start : tie.Need-part-missing-start
+part-missing-start c = sub-missing c
 
-part-reaches-end : tie.Need-part-reaches-end
-part-reaches-end c = search needs
+part-missing-end : tie.Need-part-missing-end
+part-missing-end c = search needs
 
-reaches-requires : tie.Need-reaches-requires
-reaches-requires c κs =
+missing-requires : tie.Need-missing-requires
+missing-requires c κs =
     let z = c .before .before .before .before in
     (z .pre .0, z .pre .1, z .pre .2, z .pre .3, below-lent (z .args .m) (z .args .n) (now (z .args .claim)) (z .pre .4 .residues))
 
 returns-2 : tie.Need-returns-2
 returns-2 c =
     let a = c .before .before .before .before .before .args in
-    misses-some (a .m) (a .n) (now (a .claim)) (rows (a .n + 1) (a .n + 1) (now (a .equations))) (c .reaches .result)
-    (c .before .before .if1 .left) (c .reaches .ensures)
+    let B = rows (a .n + 1) (a .n + 1) (now (a .equations)) in
+    misses-some (a .m) (a .n) (now (a .claim)) B _ (c .before .before .if1 .left) (agree-of-apart (a .m) (a .n) B _ _ (c .missing .ensures))
 
 pub misses-none-spec : {M : Type 1} → statement M
 misses-none-spec =
@@ -59,9 +60,9 @@ misses-none-spec =
     add-pivot-at
     pivot-at-requires
     returns
-    mul-reaches
-    sub-reaches
-    part-reaches-start
-    part-reaches-end
-    reaches-requires
+    mul-missing
+    sub-missing
+    part-missing-start
+    part-missing-end
+    missing-requires
     returns-2)

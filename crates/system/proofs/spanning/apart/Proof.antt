@@ -1,22 +1,22 @@
--- `spanning::agree` meets its contract. The invariant: the pivots agree at all places exactly where they do at the first
--- j. The measure is j.
+-- `spanning::apart` meets its contract. The invariant: the last place apart is the last one of the first j. The measure
+-- is j.
 use mathlib.Core.Path.{_≡_}
 use Prim.Native.Nat.{_+_, _-_, _≤_}
 use native.Mathlib.Omega.{arith}
 use borrow.Author.Needs.{needs}
 use borrow.Author.Tests.{not-true, not-false}
-use Rattle.elimination.specs.Marking.{agree, agreeFor}
+use Rattle.elimination.specs.Missed.{apart, apartFor}
 use Rattle.tableau.specs.Packed.{rows}
 use Rattle.system.proofs.Rows.{triangle-within}
-use Rattle.system.proofs.Pivots.{agree-start, agree-stop, agree-on, agree-none}
-use Rattle.system.proofs.spanning.agree.Statement.{statement}
-use Rattle.system.proofs.spanning.agree.Tie as tie
+use Rattle.system.proofs.Pivots.{apart-start, apart-stop, apart-on, apart-none}
+use Rattle.system.proofs.spanning.apart.Statement.{statement}
+use Rattle.system.proofs.spanning.apart.Tie as tie
 
 abbrev Inv-loop : tie.InvT-loop
 Inv-loop m n equations steps j₀ j =
     let B = rows (n + 1) (n + 1) equations in
     let C = rows n n steps in
-    (j ≤ n) × (agree m n B C ≡ agreeFor m n B C j)
+    (j ≤ n) × (apart m n B C ≡ apartFor m n B C j)
 
 abbrev μ-loop : tie.MeasureT-loop
 μ-loop m n equations steps j₀ j = j
@@ -26,7 +26,7 @@ loop-holds c =
     let a = c .before .before .args in
     let B = rows (a .n + 1) (a .n + 1) (a .equations .now) in
     let C = rows (a .n) (a .n) (a .steps .now) in
-    (search needs, agree-start (a .m) (a .n) B C)
+    (search needs, apart-start (a .m) (a .n) B C)
 
 sub-j : tie.Need-sub-j Inv-loop μ-loop
 sub-j c = search needs
@@ -55,6 +55,9 @@ pivot-at-requires-2 c κs =
 product-is-requires : tie.Need-product-is-requires Inv-loop μ-loop
 product-is-requires c κs = search needs
 
+add-result : tie.Need-add-result Inv-loop μ-loop
+add-result c = search needs
+
 returns : tie.Need-returns Inv-loop μ-loop
 returns c =
     let a = c .before .before .before .before .before .before .before .before .args in
@@ -64,7 +67,7 @@ returns c =
     let test = c .before .product-is in
     let B = rows (a .n + 1) (a .n + 1) (a .equations .now) in
     let C = rows (a .n) (a .n) (a .steps .now) in
-    agree-stop (a .m) (a .n) B C (l .j) _ (test .result) (of-step .result) (of-equation .result) (omega arith) (l .inv .1)
+    apart-stop (a .m) (a .n) B C (l .j) _ (test .result) (of-step .result) (of-equation .result) (omega arith) (l .inv .1)
     (test .ensures) (of-step .ensures (a .n) (omega arith)) (of-equation .ensures (a .n + 1) (omega arith))
     (not-true _ (c .if1 .taken))
 
@@ -81,7 +84,7 @@ loop-again c =
     let B = rows (a .n + 1) (a .n + 1) (a .equations .now) in
     let C = rows (a .n) (a .n) (a .steps .now) in (
       search needs,
-      agree-on (a .m) (a .n) B C (l .j) _ (test .result) (of-step .result) (of-equation .result) (omega arith) (l .inv .1)
+      apart-on (a .m) (a .n) B C (l .j) _ (test .result) (of-step .result) (of-equation .result) (omega arith) (l .inv .1)
           (test .ensures) (of-step .ensures (a .n) (omega arith)) (of-equation .ensures (a .n + 1) (omega arith))
           (not-false _ (c .if1 .left)),
     )
@@ -92,10 +95,10 @@ returns-2 c =
     let l = c .before .loop in
     let B = rows (a .n + 1) (a .n + 1) (a .equations .now) in
     let C = rows (a .n) (a .n) (a .steps .now) in
-    agree-none (a .m) (a .n) B C (l .j) _ (omega arith) (l .inv .1)
+    apart-none (a .m) (a .n) B C (l .j) _ (omega arith) (l .inv .1)
 
-pub agree-spec : {M : Type 1} → statement M
-agree-spec =
+pub apart-spec : {M : Type 1} → statement M
+apart-spec =
     tie.close
     (tie.spec
     Inv-loop
@@ -108,6 +111,7 @@ agree-spec =
     add-pivot-at
     pivot-at-requires-2
     product-is-requires
+    add-result
     returns
     loop-less
     loop-again

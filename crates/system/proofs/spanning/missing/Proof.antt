@@ -1,15 +1,15 @@
--- `spanning::reaches` meets its contract: the front of the array holds the basis of the steps.
+-- `spanning::missing` meets its contract: the front of the array holds the basis of the steps.
 use mathlib.Core.Path.{sym, _∙_}
 use Prim.Native.Nat.{_+_}
 use native.Mathlib.Omega.{arith}
 use borrow.Author.Needs.{needs}
 use Rattle.elimination.specs.Basis.{basis}
-use Rattle.elimination.specs.Marking.{agree}
+use Rattle.elimination.specs.Missed.{apart}
 use Rattle.tableau.specs.Packed.{rows}
 use Rattle.system.specs.Claims.{vectorsOf}
 use Rattle.system.proofs.Fronts.{front-within, front-zeros, front-length, front-size, front-fits, front-read}
-use Rattle.system.proofs.spanning.reaches.Statement.{statement}
-use Rattle.system.proofs.spanning.reaches.Tie as tie
+use Rattle.system.proofs.spanning.missing.Statement.{statement}
+use Rattle.system.proofs.spanning.missing.Tie as tie
 
 packed-size-requires : tie.Need-packed-size-requires
 packed-size-requires c κs = search needs
@@ -40,15 +40,15 @@ array-share-prefix-rows c =
     let b = c .before .span in
     front-fits n (size .result) (omega arith) (size .ensures) (b .last .0) (b .kept .0)
 
-slice-aggregate-agree : tie.Need-slice-aggregate-agree
-slice-aggregate-agree c =
+slice-aggregate-apart : tie.Need-slice-aggregate-apart
+slice-aggregate-apart c =
     let n = c .before .before .before .before .before .before .before .args .n in
     let size = c .before .before .before .before .packed-size in
     let b = c .before .before .span in
     size .ensures ∙ sym (front-size n (size .result) (omega arith) (size .ensures) (b .last .0) (b .kept .0))
 
-agree-requires : tie.Need-agree-requires
-agree-requires c κs =
+apart-requires : tie.Need-apart-requires
+apart-requires c κs =
     let n = c .before .before .before .before .before .before .before .args .n in
     let size = c .before .before .before .before .packed-size in
     let b = c .before .before .span in
@@ -62,11 +62,11 @@ returns c =
     let size = c .before .before .before .before .before .packed-size in
     let b = c .before .before .before .span in
     front-read n (size .result) (omega arith) (size .ensures) (b .last .0) (b .kept .0)
-    (agree (a .m) n (rows (n + 1) (n + 1) (a .equations .now))) (c .agree .result) n
-    (basis (a .m) n 0 (vectorsOf n (a .steps .now))) (b .ensures) (c .agree .ensures)
+    (apart (a .m) n (rows (n + 1) (n + 1) (a .equations .now))) (c .apart .result) n
+    (basis (a .m) n 0 (vectorsOf n (a .steps .now))) (b .ensures) (c .apart .ensures)
 
-pub reaches-spec : {M : Type 1} → statement M
-reaches-spec =
+pub missing-spec : {M : Type 1} → statement M
+missing-spec =
     tie.close
     (tie.spec
     packed-size-requires
@@ -74,6 +74,6 @@ reaches-spec =
     slice-aggregate-span
     span-requires
     array-share-prefix-rows
-    slice-aggregate-agree
-    agree-requires
+    slice-aggregate-apart
+    apart-requires
     returns)

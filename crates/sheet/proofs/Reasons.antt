@@ -1,0 +1,89 @@
+-- What document 02 says of a reason, S-5.
+--   right-reason    a well-formed claim gives no reason exactly where it passes, and the reason that it gives is true
+--   same-refusal    what marking turns away is turned away with the same number
+use mathlib.Core.Path.{_≡_, refl, sym, ap, subst, _∙_}
+use mathlib.Core.Logic.{_↔_}
+use mathlib.Core.List.{List}
+use Prim.Native.Nat.{ℕ, _<_, _≤_}
+use native.Mathlib.Omega.{arith}
+use lib.ListN.{length, length-map}
+use Rattle.slices.specs.Over.{over}
+use Rattle.equations.specs.declared.Mark.the-variants.{Pass, Fail}
+use Rattle.equations.specs.declared.Reason.{Reason}
+use Rattle.equations.specs.declared.Reason.the-variants.{Right}
+use Rattle.equations.specs.Equation.{Equation}
+use Rattle.system.proofs.Claims.{claim-formed}
+use Rattle.system.proofs.Reasons.{no-reason}
+use Rattle.words.specs.Words.{word, wordsIn, wordsOf}
+use Rattle.ledger.specs.Ledger.{Ledger, opened}
+use Rattle.ledger.specs.Allowed.{Allowed}
+use Rattle.ledger.specs.Shapes.{entriesOf, claimFrom}
+use Rattle.ledger.specs.Marking.{claimReason, reasonNumbers, shownKind}
+use Rattle.ledger.specs.Calls.{marks, queries}
+use Rattle.ledger.specs.Questions.{refusalOf}
+use Rattle.ledger.proofs.Shapes.{claimed}
+use Rattle.sheet.specs.declared.marking.Marked.the-variants.{Gets, Refused as Marked·Refused}
+use Rattle.sheet.specs.declared.reasoning.Reasoned.the-variants.{Gives, Refused}
+use Rattle.sheet.specs.Record.{Sheet, ledgerOf}
+use Rattle.sheet.specs.Calls.{markedOf, reasonedOf, shownAfter}
+use Rattle.sheet.specs.Promises.{WellFormed, RightReason}
+use Rattle.sheet.proofs.Marks.{pass-or-fail, marked-accepted, mark-refused, well-accepted, mark-decides}
+use Rattle.sheet.proofs.Reasoned.{reason-says, show-short, show-wrote, reason-refused, reason-shown}
+
+module _ (m n : ℕ) (es : List Equation) (ws : List ℕ) (allowed : Allowed m n es) (well : WellFormed m n ws) where
+  abbrev l : Ledger
+  l = opened m n es
+
+  abbrev reason : Reason
+  reason = claimReason l ws
+
+  abbrev shown : List ℕ
+  shown = reasonNumbers l ws
+
+  abbrev words : List ℕ
+  words = wordsOf (shownKind (claimReason l ws)) (reasonNumbers l ws)
+
+  accepted : refusalOf (opened m n es) (queries (marks ws)) ≡ 0
+  accepted = well-accepted m n es ws well
+
+  tells : ((markedOf (opened m n es) ws ≡ Gets Pass) ↔ (claimReason (opened m n es) ws ≡ Right))
+      × ((markedOf (opened m n es) ws ≡ Gets Fail) ↔ (claimReason (opened m n es) ws ≡ Right → ⊥))
+  tells =
+      let none = no-reason m n es (claimFrom n (wordsIn ws)) (omega (arith, allowed .modulus)) (allowed .shaped)
+      (claim-formed m n (entriesOf (wordsIn ws)) (claimed n ws (well .0) m (well .1))) in
+      rw (marked-accepted l ws accepted) (mark-decides m n es ws (none .1, none .0) Gets pass-or-fail)
+
+  count : length words ≡ length shown
+  count = length-map shown (word (shownKind reason))
+
+  given : (old : List ℕ) → length shown ≤ length old
+      → (reasonedOf l ws old ≡ Gives reason (length shown)) × (shownAfter l ws old ≡ over words old)
+  given old long =
+      let wrote = show-wrote reason words old (omega (arith, count)) in
+      let is = reason-shown l ws old accepted reason shown refl refl in
+      (sym (ap (Gives reason) (sym count) ∙ wrote .0 ∙ is .0), sym (wrote .1 ∙ is .1))
+
+  short : (old : List ℕ) → length old < length shown → reasonedOf l ws old ≡ Refused 8
+  short old less =
+      sym (show-short reason words old (omega (arith, count)) .0 ∙ reason-shown l ws old accepted reason shown refl refl .0)
+
+  pub right-reason : (s : Sheet) → ledgerOf s ≡ opened m n es → RightReason s m n es ws
+  right-reason s reads =
+      record {
+        reason = reason;
+        passed = subst (λ (k : Ledger). (markedOf k ws ≡ Gets Pass) ↔ (reason ≡ Right)) (sym reads) (tells .0);
+        failed = subst (λ (k : Ledger). (markedOf k ws ≡ Gets Fail) ↔ (reason ≡ Right → ⊥)) (sym reads) (tells .1);
+        shown = shown;
+        says = reason-says l ws accepted allowed;
+        given = λ old long.
+            subst (λ (k : Ledger). (reasonedOf k ws old ≡ Gives reason (length shown)) × (shownAfter k ws old ≡ over words old)) (sym reads)
+            (given old long);
+        short = λ old less. ap (λ (k : Ledger). reasonedOf k ws old) reads ∙ short old less;
+      }
+
+pub same-refusal : (l : Ledger) (ws old : List ℕ) (k : ℕ) → markedOf l ws ≡ Marked·Refused k
+    → (reasonedOf l ws old ≡ Refused k) × (shownAfter l ws old ≡ old)
+same-refusal l ws old k is =
+    let refused = mark-refused l ws is in
+    let both = reason-refused l ws old k (refused .0) (refused .1) in
+    (sym (both .0), sym (both .1))
