@@ -2,14 +2,14 @@
 -- lent. Definitions only.
 use mathlib.Core.Path.{_≡_}
 use Prim.Native.Nat.{ℕ, _+_, _/_, _%_}
-use mathlib.Core.Bool.{_&&_}
+use mathlib.Core.Bool.{cond, _&&_}
 use mathlib.Core.List.{List, [], _∷_, _++_}
 use lib.Dec.{eqb, leb}
 use lib.IntN.{ℤ, pos, negℤ}
 use lib.ListN.{length}
 use Rattle.residue.specs.Chain.{chainOf}
 use Rattle.questions.specs.Questions.{Question, asks, firstNo, unlessRefused}
-use Rattle.questions.specs.Reply.{Reply, gives, refuses, fits, resultOf, memoryAfter}
+use Rattle.questions.specs.Reply.{Reply, gives, refuses, resultOf, memoryAfter}
 use Rattle.slices.specs.Over.{over}
 use Rattle.congruence.specs.declared.Solved.{Solved}
 use Rattle.congruence.specs.declared.Solved.the-variants.{Refused, NoSolution, Solutions}
@@ -20,16 +20,19 @@ use Rattle.equations.specs.Claim.{markNumber}
 use Rattle.equations.specs.Reasons.{reasonNumber, placesIn}
 use Rattle.system.specs.Block.{blockOf}
 use Rattle.ledger.specs.Ledger.{Ledger, mostEquations}
-use Rattle.ledger.specs.Marking.{claimReason, reasonWords}
-use Rattle.ledger.specs.Questions.{allowedUnknowns, markQuestions}
+use Rattle.ledger.specs.Calls.{marks, queries}
+use Rattle.ledger.specs.Questions.{allowedUnknowns, refusalOf}
 use Rattle.sheet.specs.declared.Entered.{Entered}
 use Rattle.sheet.specs.declared.Entered.the-variants.{Holds, Refused as Entered·Refused}
 use Rattle.sheet.specs.declared.answering.Answered.{Answered}
 use Rattle.sheet.specs.declared.answering.Answered.the-variants.{Wrote as Answered·Wrote, Refused as Answered·Refused}
 use Rattle.sheet.specs.declared.marking.Marked.{Marked}
 use Rattle.sheet.specs.declared.marking.Marked.the-variants.{Gets, Refused as Marked·Refused}
+use Rattle.sheet.specs.declared.reasoning.Reasoned.{Reasoned}
+use Rattle.sheet.specs.declared.reasoning.Reasoned.the-variants.{Gives, Refused as Reasoned·Refused}
 use Rattle.sheet.specs.declared.classing.Classed.{Classed}
 use Rattle.sheet.specs.declared.classing.Classed.the-variants.{Claims, Refused as Classed·Refused}
+use Rattle.sheet.specs.Calls.{reasonedOf, shownAfter}
 use Rattle.safe.specs.declared.Turned.{Turned}
 use Rattle.safe.specs.declared.Turned.the-variants.{Wrote, NoTurns, Refused as Turned·Refused}
 use Rattle.tape.specs.Output.{mostBytes, lines}
@@ -60,27 +63,29 @@ unfoldable pub classedResult : Classed → ℤ
 classedResult (Claims k) = pos k
 classedResult (Classed·Refused k) = minus k
 
--- A reason has two lent memories: `at` for the step, the equation and the number of words, and `out` for the words. The questions of
--- marking, then 8 for an `at` of fewer than 3 numbers, "then 8 for a buffer too short for this reason's words".
+-- A reason's number, which is 0 for a claim that passes.
+unfoldable pub reasonedResult : Reasoned → ℤ
+reasonedResult (Gives reason k) = pos (reasonNumber reason)
+reasonedResult (Reasoned·Refused k) = minus k
+
+-- A reason has a second lent memory, `at`, for the step, the equation and the number of words. Where it has fewer than 3 numbers, the claim is
+-- turned away with 8, behind the questions of marking, and nothing is written.
 abbrev pub placeRoom : ℕ
 placeRoom = 3
 
-abbrev pub reasonRefusal : Ledger → List ℕ → List ℕ → List ℕ → ℕ
-reasonRefusal l ws at out =
-    firstNo (markQuestions l ws ++ (asks 8 (leb placeRoom (length at)) ∷ asks 8 (fits (reasonWords l ws) out) ∷ []))
+abbrev pub withoutPlaces : Ledger → List ℕ → Reasoned
+withoutPlaces l ws = unlessRefused Reasoned·Refused (refusalOf l (queries (marks ws))) (Reasoned·Refused 8)
 
--- the reason's number, which is 0 for a claim that passes, or minus the number of the refusal
-unfoldable pub reasonResult : Ledger → List ℕ → List ℕ → List ℕ → ℤ
-reasonResult l ws at out = unlessRefused minus (reasonRefusal l ws at out) (pos (reasonNumber (claimReason l ws)))
+-- what is said of the claim in ws, and what `at` and `out` then hold; at a refusal both keep their content
+unfoldable pub reasonSaid : Ledger → List ℕ → List ℕ → List ℕ → Reasoned
+reasonSaid l ws at out = cond (leb placeRoom (length at)) (reasonedOf l ws out) (withoutPlaces l ws)
 
--- what the two memories then hold; at a refusal both keep their content
-unfoldable pub placesAfter : Ledger → List ℕ → List ℕ → List ℕ → List ℕ
-placesAfter l ws at out =
-    unlessRefused (λ (k : ℕ). at) (reasonRefusal l ws at out)
-    (over (placesIn (claimReason l ws) ++ (length (reasonWords l ws) ∷ [])) at)
+unfoldable pub placesAfter : Reasoned → List ℕ → List ℕ
+placesAfter (Gives reason k) at = over (placesIn reason ++ (k ∷ [])) at
+placesAfter (Reasoned·Refused k) at = at
 
 unfoldable pub reasonAfter : Ledger → List ℕ → List ℕ → List ℕ → List ℕ
-reasonAfter l ws at out = unlessRefused (λ (k : ℕ). out) (reasonRefusal l ws at out) (over (reasonWords l ws) out)
+reasonAfter l ws at out = cond (leb placeRoom (length at)) (shownAfter l ws out) out
 
 -- a call replied: it returned r, and the lent memory went from `old` to `new`
 pub record Replied (reply : Reply ℤ) (old new : List ℕ) (r : ℤ) : Type 0 where

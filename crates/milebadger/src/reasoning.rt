@@ -5,12 +5,9 @@ ghost use Prim.Native.Nat.{_≤_};
 ghost use lib.IntN.{pos};
 ghost use lib.ListN.{length};
 ghost use Rattle.slices.specs.Over.{over};
-ghost use Rattle.questions.specs.Questions.{unlessRefused};
 ghost use Rattle.equations.specs.Reasons.{reasonNumber, placesIn};
-ghost use Rattle.ledger.specs.Calls.{marks, queries};
-ghost use Rattle.ledger.specs.Questions.{refusalOf};
 ghost use Rattle.sheet.specs.Record.{ledgerOf};
-ghost use Rattle.milebadger.specs.Calls.{minus, placeRoom};
+ghost use Rattle.milebadger.specs.Calls.{reasonedResult, placeRoom, withoutPlaces};
 use crate::replying::TOO_SHORT;
 use crate::replying::refuse;
 use equations::Reason;
@@ -29,7 +26,7 @@ struct Named {
 
 // The result where `at` is too short: the questions of marking come first.
 pub(crate) fn places_missing(sheet: &[u32; Sheet::SIZE], words: &[u32]) -> i64
-    ensures { λ r. ⌜ r ≡ unlessRefused minus (refusalOf (ledgerOf (now (sheet .entry))) (queries (marks (now (words .entry))))) (minus 8) ⌝ }
+    ensures { λ r. ⌜ r ≡ reasonedResult (withoutPlaces (ledgerOf (now (sheet .entry))) (now (words .entry))) ⌝ }
 {
     let marked = Sheet::mark(sheet, words);
     match marked {

@@ -5,7 +5,7 @@ ghost use Rattle.ledger.specs.Calls.{opens, adds, types, strikes};
 ghost use Rattle.sheet.specs.Record.{ledgerOf};
 ghost use Rattle.sheet.specs.Calls.{enteredOf, sheetAfter, answeredOf, bufferAfter, markedOf, classedOf, marksAfter};
 ghost use Rattle.milebadger.specs.Calls.{enteredResult, answeredResult, markedResult, classedResult};
-ghost use Rattle.milebadger.specs.Calls.{reasonResult, placesAfter, reasonAfter};
+ghost use Rattle.milebadger.specs.Calls.{reasonedResult, reasonSaid, placesAfter, reasonAfter};
 use crate::reasoning::PLACES;
 use crate::reasoning::give_reason;
 use crate::reasoning::places_missing;
@@ -92,9 +92,9 @@ pub extern "C" fn milebadger_reason(
     at: &mut [u32],
     out: &mut [u32],
 ) -> i64
-    ensures { λ r. ⌜ r ≡ reasonResult (ledgerOf (now (sheet .entry))) (now (words .entry)) (now (at .entry)) (now (out .entry)) ⌝ }
+    ensures { λ r. ⌜ r ≡ reasonedResult (reasonSaid (ledgerOf (now (sheet .entry))) (now (words .entry)) (now (at .entry)) (now (out .entry))) ⌝ }
     ensures { λ _. ⌜ now (at .exit)
-        ≡ placesAfter (ledgerOf (now (sheet .entry))) (now (words .entry)) (now (at .entry)) (now (out .entry)) ⌝ }
+        ≡ placesAfter (reasonSaid (ledgerOf (now (sheet .entry))) (now (words .entry)) (now (at .entry)) (now (out .entry))) (now (at .entry)) ⌝ }
     ensures { λ _. ⌜ now (out .exit)
         ≡ reasonAfter (ledgerOf (now (sheet .entry))) (now (words .entry)) (now (at .entry)) (now (out .entry)) ⌝ }
 {

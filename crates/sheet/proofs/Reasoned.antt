@@ -1,5 +1,4 @@
 -- What is said of a claim that is explained, and of the reason that is given; both are told apart by the refusal of marking.
---   gives-is, refused-is                          a reason or a refusal, by the number of the refusal
 --   explained-refused, said-gives, said-refused   what was found before anything is written
 --   reason-says                                   the reason of an accepted claim, with its numbers, is true
 --   numbers-below, numbers-few                    the numbers have words, and are 16 at most
@@ -47,14 +46,14 @@ use Rattle.sheet.proofs.MarkGiven.{mark-opened}
 -- ---- what was found
 
 -- told apart by the number r of a refusal
-pub gives-is : (r : ℕ) (x y : Reason) (k j : ℕ) → unlessRefused Refused r (Gives x k) ≡ Gives y j → (r ≡ 0) × (y ≡ x) × (j ≡ k)
+gives-is : (r : ℕ) (x y : Reason) (k j : ℕ) → unlessRefused Refused r (Gives x k) ≡ Gives y j → (r ≡ 0) × (y ≡ x) × (j ≡ k)
 gives-is r x y k j is = by (unless-either Refused r (Gives x k) (Gives y j) is)
   where
     by : ((r ≡ 0) × (Gives x k ≡ Gives y j)) ⊎ ((r ≡ 0 → ⊥) × (Refused r ≡ Gives y j)) → (r ≡ 0) × (y ≡ x) × (j ≡ k)
     by (inl (none, same)) = (none, cc, cc)
     by (inr (some, same)) = let z : _≡_ {A = ℕ} 0 1 = cc in absurd (omega arith)
 
-pub refused-is : (r : ℕ) (x : Reason) (k j : ℕ) → unlessRefused Refused r (Gives x k) ≡ Refused j → (r ≡ j) × (j ≡ 0 → ⊥)
+refused-is : (r : ℕ) (x : Reason) (k j : ℕ) → unlessRefused Refused r (Gives x k) ≡ Refused j → (r ≡ j) × (j ≡ 0 → ⊥)
 refused-is r x k j is = by (unless-either Refused r (Gives x k) (Refused j) is)
   where
     by : ((r ≡ 0) × (Gives x k ≡ Refused j)) ⊎ ((r ≡ 0 → ⊥) × (Refused r ≡ Refused j)) → (r ≡ j) × (j ≡ 0 → ⊥)

@@ -5,6 +5,7 @@ use borrow.Author.Tests.{ne-eqb}
 use denote.Ref.{now}
 use Rattle.sheet.specs.Record.{ledgerOf}
 use Rattle.sheet.proofs.Marks.{mark-accepted, mark-refused}
+use Rattle.milebadger.specs.Calls.{reasonedResult}
 use Rattle.milebadger.proofs.Signed.{handed-on}
 use Rattle.milebadger.proofs.reasoning.places_missing.Statement.{statement}
 use Rattle.milebadger.proofs.reasoning.places_missing.Tie as tie
@@ -22,6 +23,7 @@ refuse-requires : tie.Need-refuse-requires
 refuse-requires c κs = search needs
 
 returns : tie.Need-returns
+unfolding reasonedResult
 returns c =
     let a = c .before .before .before .before .before .args in
     let mark = c .before .before .before .mark in
@@ -29,6 +31,7 @@ returns c =
     rw accepted
 
 returns-2 : tie.Need-returns-2
+unfolding reasonedResult
 returns-2 c =
     let a = c .before .before .before .before .before .before .args in
     let mark = c .before .before .before .before .mark in
