@@ -35,7 +35,6 @@ use Rattle.ledger.specs.Calls.{marks, reasons, queries}
 use Rattle.ledger.specs.Questions.{markQuestions, refusalOf}
 use Rattle.ledger.proofs.Shapes.{claimed}
 use Rattle.ledger.proofs.Questions.{accepted-yes}
-use Rattle.sheet.specs.declared.reasoning.Reasoned.{Reasoned}
 use Rattle.sheet.specs.declared.reasoning.Reasoned.the-variants.{Gives, Refused}
 use Rattle.sheet.specs.Record.{Sheet, ledgerOf}
 use Rattle.sheet.specs.Calls.{showReply, reasonedOf, shownAfter}

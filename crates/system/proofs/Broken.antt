@@ -2,7 +2,7 @@
 --   FirstBroken                              what is left finds the line that the whole finds
 --   broken-on, broken-stop, broken-none      the first line left passes, it fails, there is none
 use mathlib.Core.Path.{_≡_, sym, ap, ap₂, _∙_}
-use mathlib.Core.List.{List, [], _∷_}
+use mathlib.Core.List.{List, _∷_}
 use mathlib.Core.Bool.{Bool, true, false, cond}
 use Prim.Native.Nat.{ℕ, suc, _+_, _%_, _<_, _≤_}
 use native.Mathlib.Nat.{mod-eq-of-lt}

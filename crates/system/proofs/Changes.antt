@@ -5,12 +5,12 @@
 --   steps-start, steps-on, steps-end     the same for the vectors
 --   change-found                         the first line left is changed by the first vector left
 use mathlib.Core.Path.{_≡_, refl, sym, ap, ap₂, _∙_}
-use mathlib.Core.List.{List, [], _∷_}
+use mathlib.Core.List.{List, _∷_}
 use mathlib.Core.Bool.{Bool, true, false, cond, _&&_}
 use Prim.Native.Nat.{ℕ, suc, _+_, _%_, _<_, _≤_}
 use native.Mathlib.Nat.{zero-mod}
 use native.Mathlib.Numerals.{add-one}
-use lib.ListN.{length, take, drop}
+use lib.ListN.{length, take}
 use lib.Dec.{eqb}
 use borrow.Author.Tests.{eq-eqb, ne-eqb}
 use Rattle.slices.proofs.Parts.{lent, lent-is}

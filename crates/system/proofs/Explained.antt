@@ -35,7 +35,7 @@ use Rattle.equations.proofs.Fails.{fails-none}
 use Rattle.equations.proofs.Reasons.{solution-of, broken-none}
 use Rattle.elimination.specs.Basis.{basis, pivot}
 use Rattle.elimination.specs.Substitution.{extend}
-use Rattle.elimination.specs.Tableau.{turned, tableau}
+use Rattle.elimination.specs.Tableau.{tableau}
 use Rattle.elimination.specs.Multipliers.{multipliersOf}
 use Rattle.elimination.specs.Missed.{apart, shiftedAt, missedOf}
 use Rattle.elimination.specs.Missed.Step.{missed-step}

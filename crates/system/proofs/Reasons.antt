@@ -1,7 +1,7 @@
 -- The promises of specs/Reasons.antt, kept.
 --   true-reason, no-reason
 --   says-residues, says-few   what a reason shows are residues, and as many as there are unknowns or equations at most
-use mathlib.Core.Path.{_≡_, refl, sym, _∙_, subst}
+use mathlib.Core.Path.{_≡_, refl, _∙_, subst}
 use mathlib.Core.Logic.{_⊎_, inl, inr}
 use mathlib.Core.List.{List}
 use mathlib.Core.Option.{none}

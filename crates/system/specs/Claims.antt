@@ -25,5 +25,6 @@ claimOf n (x ∷ s) = from (take n (x ∷ s)) (vectorsOf n (drop n (x ∷ s)))
 -- "It is well-formed if its shape is right and its entries are below m."
 pub record Claimed (m n : ℕ) (claim : List ℕ) : Type 0 where
   pub whole : length claim % n ≡ 0
+  -- "1..17 is a starting vector with its steps"
   pub vectors : length claim ≤ 17 * n
   pub residues : Below m claim

@@ -3,7 +3,7 @@
 pub mod Posed
 pub mod Block
 pub mod Claims
+pub mod Reasons
 pub mod Ready
 pub mod Promises
-pub mod Reasons
 pub mod Model

@@ -1,5 +1,5 @@
 -- `reasoning::give_reason` meets its contract: the three numbers stand at the front.
-use mathlib.Core.Path.{_≡_, ap, _∙_}
+use mathlib.Core.Path.{ap, _∙_}
 use mathlib.Core.List.{List, [], _∷_, _++_}
 use Prim.Native.Nat.{ℕ}
 use native.Mathlib.Omega.{arith}
@@ -8,7 +8,7 @@ use denote.Ref.{now}
 use mir.Syntax.{w64}
 use mir.ValLaws.{toZ-pos}
 use lib.IntN.{pos}
-use lib.ListN.{length, length-set}
+use lib.ListN.{length-set}
 use Rattle.slices.specs.Over.{over}
 use Rattle.milebadger.proofs.Reasoned.{three-written}
 use Rattle.milebadger.proofs.reasoning.give_reason.Statement.{statement}

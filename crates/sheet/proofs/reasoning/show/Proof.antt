@@ -1,13 +1,11 @@
 -- `reasoning::show` meets its contract: the words are as many as the numbers, and 8 is asked of them.
-use mathlib.Core.Path.{_≡_, sym, ap, _∙_}
-use mathlib.Core.List.{List}
+use mathlib.Core.Path.{sym, ap, _∙_}
 use Prim.Native.Nat.{ℕ}
 use native.Mathlib.Omega.{arith}
 use borrow.Author.Needs.{needs}
 use denote.Ref.{now}
-use lib.ListN.{length, length-map}
+use lib.ListN.{length-map}
 use Rattle.slices.specs.Over.{over}
-use Rattle.equations.specs.declared.Reason.{Reason}
 use Rattle.words.specs.Words.{word, wordsOf}
 use Rattle.ledger.specs.Marking.{shownKind}
 use Rattle.sheet.specs.declared.reasoning.Reasoned.the-variants.{Gives}

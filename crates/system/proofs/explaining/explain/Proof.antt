@@ -1,6 +1,5 @@
 -- `explaining::explain` meets its contract: the tests stand in such an order that each way out has the outcomes that it needs.
-use mathlib.Core.Path.{_≡_, refl, sym, ap, subst, _∙_}
-use mathlib.Core.Bool.{true}
+use mathlib.Core.Path.{_≡_, refl, sym, subst}
 use mathlib.Core.List.{List}
 use Prim.Native.Nat.{ℕ}
 use native.Mathlib.Omega.{arith}
@@ -19,7 +18,7 @@ use Rattle.equations.proofs.Vectors.{vector-of, below-take}
 use Rattle.equations.proofs.Lines.{equations-shaped}
 use Rattle.tableau.proofs.Lines.{below-lent}
 use Rattle.system.specs.declared.explaining.Finding.{Finding}
-use Rattle.system.specs.Claims.{Claimed, claimOf, vectorsOf}
+use Rattle.system.specs.Claims.{Claimed, vectorsOf}
 use Rattle.system.specs.Reasons.{shownWith, findingOf}
 use Rattle.system.proofs.Marks.{claim-front, claim-of-none, claim-of-some, start-right, steps-right}
 use Rattle.system.proofs.Explained.{explained, explained-broken, reason-changes}

@@ -4,10 +4,9 @@ use mathlib.Core.List.{List}
 use Prim.Native.Nat.{ℕ, zero, suc, _+_, _-_, _/_, _<_, _≤_}
 use native.Mathlib.Nat.{div-lt-self}
 use native.Mathlib.Omega.{arith}
-use lib.ListN.{length}
 use borrow.Author.Needs.{needs}
 use denote.Ref.{now}
-use Rattle.equations.specs.Vectors.{Below, combine}
+use Rattle.equations.specs.Vectors.{combine}
 use Rattle.elimination.specs.Basis.{pivot}
 use Rattle.elimination.specs.Missed.{shiftedAt}
 use Rattle.system.specs.Model.Reading.{rowsIn, readVector}
