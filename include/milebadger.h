@@ -62,11 +62,11 @@
 extern "C" {
 #endif
 
-/* This header's version: 10,000 times its first number, 100 times its second and its third; 20200 is 2.2.0. The header
+/* This header's version: 10,000 times its first number, 100 times its second and its third; 20300 is 2.3.0. The header
  * goes with its library. As long as the first number is the same, a sheet keeps its size and the calls keep their
  * arguments; a program that loads the shared library can ask for that when it starts:
  * milebadger_version() / 10000 == MILEBADGER_VERSION / 10000. */
-#define MILEBADGER_VERSION 20200
+#define MILEBADGER_VERSION 20300
 
 /* The library's version.
  *
@@ -95,6 +95,7 @@ uint32_t milebadger_version(void);
 #define MILEBADGER_REFUSED_BEYOND (-12)
 #define MILEBADGER_REFUSED_NOT_LINEAR (-13)
 #define MILEBADGER_REFUSED_CLAIMS (-14)
+#define MILEBADGER_REFUSED_OWN_MODULUS (-15)
 
 /* What a result says, in plain English: "done" where the call was made, else why it was refused. */
 static inline const char *milebadger_sentence(int64_t result)
@@ -130,6 +131,8 @@ static inline const char *milebadger_sentence(int64_t result)
         return "the text is not linear: a product has unknowns on both sides";
     case MILEBADGER_REFUSED_CLAIMS:
         return "the class has more than 64 claims";
+    case MILEBADGER_REFUSED_OWN_MODULUS:
+        return "the equation's own modulus is below 2 or does not divide the sheet's";
     default:
         return "no result of this library";
     }
@@ -137,7 +140,8 @@ static inline const char *milebadger_sentence(int64_t result)
 
 /* Words: the kind in the top 4 bits, the number in the low 28. And the number of a word.
  *
- * Coefficients and right sides below 0 have words of their own: MILEBADGER_MINUS_RIGHT(2) is a right side of minus 2. A
+ * Coefficients and right sides below 0 have words of their own: MILEBADGER_MINUS_RIGHT(2) is a right side of minus 2. An
+ * equation that is meant mod 3 on a sheet mod 12 has MILEBADGER_OWN_MODULUS(3) in front, as milebadger_add says. A
  * word's number has no sign: one below 0 or above MILEBADGER_LARGEST_NUMBER makes a word of another kind or with another
  * number. In C11 and later, such a constant does not compile. Numbers that are known only when the program runs are not
  * looked at, nor any in C99 and C++. Each macro evaluates its argument once, and is a constant where that is one. */
@@ -151,6 +155,7 @@ static inline const char *milebadger_sentence(int64_t result)
 #define MILEBADGER_ANSWER MILEBADGER_WORD(9, 0)
 #define MILEBADGER_MINUS_COEFFICIENT(a) MILEBADGER_WORD(10, a)
 #define MILEBADGER_MINUS_RIGHT(b) MILEBADGER_WORD(11, b)
+#define MILEBADGER_OWN_MODULUS(q) MILEBADGER_WORD(12, q)
 #define MILEBADGER_NUMBER(word) ((uint32_t)(word) & MILEBADGER_LARGEST_NUMBER)
 
 /* What is accepted, at most. Only milebadger_solve takes any modulus. */
@@ -176,11 +181,12 @@ static inline const char *milebadger_sentence(int64_t result)
 /* Bytes that are enough for the lines of every tape of `tape_len` bytes: an answer for each word, and `refused 9`. */
 #define MILEBADGER_LINES_ROOM(tape_len) ((size_t)(tape_len) / 4 * MILEBADGER_LONGEST_ANSWER + 10)
 
-/* A sheet: a modulus m, a number n of unknowns, and up to 16 equations. Zeroed memory is a fresh sheet, which is not
- * opened: `milebadger_sheet sheet = {0};`. It can be copied by assignment, and kept in a file for programs of the same
- * MILEBADGER_VERSION. What its numbers stand for is the library's business: it is read and changed by the calls alone.
- * Numbers that no call has put there do no harm; they are read as a sheet that is not opened, or as the one they spell.
- * Its size is part of the library: all of a program is compiled with the header that goes with it. */
+/* A sheet: a modulus m, a number n of unknowns, and up to 16 equations, each mod m or mod a divisor of it. Zeroed memory
+ * is a fresh sheet, which is not opened: `milebadger_sheet sheet = {0};`. It can be copied by assignment, and kept in a
+ * file for programs of the same MILEBADGER_VERSION. What its numbers stand for is the library's business: it is read and
+ * changed by the calls alone. Numbers that no call has put there do no harm; they are read as a sheet that is not opened,
+ * or as the one they spell. Its size is part of the library: all of a program is compiled with the header that goes with
+ * it. */
 typedef struct {
     uint32_t numbers[291];
 } milebadger_sheet;
@@ -197,9 +203,15 @@ int64_t milebadger_open(milebadger_sheet *sheet, const uint32_t *words, size_t w
  * COEFFICIENT(a) for each unknown, or MINUS_COEFFICIENT(a) where it is minus a; then RIGHT(b), or MINUS_RIGHT(b) where it
  * is minus b. Any number of 28 bits will do: it is brought to its residue, 0 to m - 1. So minus 1 is m - 1, and m is 0.
  *
- * Asks     Opened? If not, -4.  n + 1 words, of these kinds? If not, -1.  Fewer than 16 equations held? If not, -5.
+ * In front of them may stand OWN_MODULUS(q), for an equation with a modulus of its own, a divisor of m. A vector then
+ * solves it if both sides agree mod q, and its numbers are brought to their residues mod q: mod 3, minus 1 is 2. Vectors
+ * stay vectors of residues mod m: on a sheet mod 12, x1 = 2 mod 3 has the solutions 2, 5, 8 and 11, and with x1 = 3 mod 4
+ * beside it just 11. Without OWN_MODULUS, and for typed text, q is m.
+ *
+ * Asks     Opened? If not, -4.  n + 1 words of these kinds, alone or behind one OWN_MODULUS? If not, -1.  q from 2 on,
+ *          and a divisor of m? If not, -15.  Fewer than 16 equations held? If not, -5.
  * Writes   the sheet.
- * Returns  how many equations are then held, 1 to 16; or -4, -1, -5. */
+ * Returns  how many equations are then held, 1 to 16; or -4, -1, -15, -5. */
 int64_t milebadger_add(milebadger_sheet *sheet, const uint32_t *words, size_t words_len);
 
 /* Adds an equation that is typed as text, such as 3*(x1 - 2*x2) + x3 = 5 - x1, behind those that are held. The unknowns'
@@ -233,7 +245,7 @@ int64_t milebadger_add_text(milebadger_sheet *sheet, const uint8_t *text, size_t
  * Returns  how many equations are then held, 0 to 15; or -4, -1, -7. */
 int64_t milebadger_strike(milebadger_sheet *sheet, uint32_t place);
 
-/* The answer to the equations that are held. With none, every vector is a solution.
+/* The answer to the equations that are held, each mod its own modulus. With none, every vector is a solution.
  *
  * Asks     Opened? If not, -4.
  * Needs    out_len at least the block's length. MILEBADGER_LONGEST_BLOCK is enough for every block.
@@ -243,7 +255,9 @@ int64_t milebadger_strike(milebadger_sheet *sheet, uint32_t place);
  *          which they are and how each solution is written with them. Such a block can be marked as a claim as it is.
  *          An h of 0 says that there is no solution. Behind it stands a word of kind 7 for each equation, with its
  *          multiplier: the equations so multiplied add up mod m to coefficients that are 0 and a right side that is not.
- *          Which multipliers, is not promised: check them, do not compare them. As a claim, take the head alone.
+ *          An equation with a modulus q of its own has both sides multiplied by m / q first: x1 = 2 mod 3 is
+ *          4·x1 = 8 mod 12. Which multipliers, is not promised: check them, do not compare them. As a claim, take the
+ *          head alone.
  * Returns  how many words the block has: 1 + h * n, or 1 + the number of equations; or -4, -8. */
 int64_t milebadger_answer(const milebadger_sheet *sheet, uint32_t *out, size_t out_len);
 
@@ -293,11 +307,13 @@ int64_t milebadger_class(const milebadger_sheet *sheet, const uint32_t *words, s
  * (Each name with MILEBADGER_REASON_ in front.) Steps and equations count from 1. Where there is no solution, the reason is
  * 2 for every claim but HEAD(0), whatever its start and steps are. 3 gives the first equation that the start does not
  * solve. 4 gives the first step that changes a left side, and for it the first such equation: the sum of coefficient times
- * entry of the step is not 0 mod m. The left side of a typed equation has all its unknowns.
+ * entry of the step is not 0 mod m, or mod the equation's own modulus. The left side of a typed equation has all its
+ * unknowns.
  *
- * A solution is n words ENTRY(x), multipliers are a word of kind 7 for each equation, as in the answer, without a head. The
- * solution of 1 is the answer's starting vector. Which multipliers stand behind 2, and of the solutions that are missed
- * which stands behind 5, is not promised: check them, do not compare them.
+ * A solution is n words ENTRY(x), multipliers are a word of kind 7 for each equation, as in the answer, without a head: so
+ * an equation with a modulus q of its own is multiplied by m / q first. The solution of 1 is the answer's starting vector.
+ * Which multipliers stand behind 2, and of the solutions that are missed which stands behind 5, is not promised: check
+ * them, do not compare them.
  *
  * Asks     Opened? If not, -4.  A head of at most 17 and h * n words behind it, of these kinds? If not, -1.
  *          All entries below m? If not, -6.
@@ -320,6 +336,7 @@ int64_t milebadger_reason(const milebadger_sheet *sheet, const uint32_t *words, 
  *                                                            equations
  *     n times COEFFICIENT(a), RIGHT(b)    added k            adds an equation, 16 at most; k are then held. For minus a
  *                                                            MINUS_COEFFICIENT(a), for minus b MINUS_RIGHT(b)
+ *     OWN_MODULUS(q), then such words     added k            adds an equation mod q, a divisor of m
  *     STRIKE                              struck k           takes the last equation off; k are then held
  *     ANSWER                              from .., step ..   the starting vector, then each step, n entries each;
  *                                         or none ..         or a multiplier for each equation
@@ -327,19 +344,21 @@ int64_t milebadger_reason(const milebadger_sheet *sheet, const uint32_t *words, 
  *                                                            starting vector and its steps, 17 at most
  *     any of these, refused               refused r          nothing; r is a number of the table below
  *
- * (Each name with MILEBADGER_ in front.) Multipliers are any that refute the equations: check them, do not compare them.
+ * (Each name with MILEBADGER_ in front.) Multipliers are any that refute the equations, as milebadger_answer says: check
+ * them, do not compare them.
  *
- * How many words a call takes, its first word alone decides, and not the kinds of those behind it: 2, n + 1, 1, 1, and
- * 1 + h times n. MINUS_COEFFICIENT begins an equation as COEFFICIENT does. These two and HEAD take one word while the
- * sheet is not opened, and so does a HEAD above 17 at any time: the words behind it are then read as calls of their own,
- * so that one refused claim or equation can give a line for each of its words. A call that is cut short by the end of the
- * tape is refused with 1, and so is a first word of another kind, RIGHT and MINUS_RIGHT among them, which takes one word.
- * Bytes left over behind the last word give `refused 9` as the last line.
+ * How many words a call takes, its first word alone decides, and not the kinds of those behind it: 2, n + 1, n + 2, 1, 1,
+ * and 1 + h times n. MINUS_COEFFICIENT begins an equation as COEFFICIENT does. These two, OWN_MODULUS and HEAD take one
+ * word while the sheet is not opened, and so does a HEAD above 17 at any time: the words behind it are then read as calls
+ * of their own, so that one refused claim or equation can give a line for each of its words. A call that is cut short by
+ * the end of the tape is refused with 1, and so is a first word of another kind, RIGHT and MINUS_RIGHT among them, which
+ * takes one word. Bytes left over behind the last word give `refused 9` as the last line.
  *
  *     refused  1  wrong shape, or an ANSWER or STRIKE with a number other than 0   5  there are 16 equations
  *              2  m is not 2..65,535                                               6  an entry is not below m
  *              3  n is not 1..16                                                   7  no equation to strike
  *              4  not opened                                                       9  1 to 3 bytes left over
+ *             15  q is below 2 or does not divide m
  *
  * Asks     tape_len at most 65,536? If not, -10.
  * Needs    out_len at least the length of all lines together. MILEBADGER_LINES_ROOM(tape_len) is enough for every tape.

@@ -21,6 +21,11 @@ pub fn add(numbers: &[i64]) -> Act {
     Act::Add(ledger::equation(numbers))
 }
 
+/// The same with a modulus of its own.
+pub fn add_own(q: u32, numbers: &[i64]) -> Act {
+    Act::Add(ledger::own_equation(q, numbers))
+}
+
 pub fn add_text(text: &str) -> Act {
     Act::AddText(text.as_bytes().to_vec())
 }
@@ -45,7 +50,8 @@ pub fn reason(words: &[u32], at: usize, out: usize) -> Act {
 
 /// An opening, and a call for each equation.
 pub fn entering(system: &System) -> Vec<Act> {
-    [open(system.m, system.n as u32)].into_iter().chain(system.equations.iter().map(|equation| add(equation))).collect()
+    let adding = system.equations.iter().map(|line| Act::Add(ledger::line_words(system.m, line)));
+    [open(system.m, system.n as u32)].into_iter().chain(adding).collect()
 }
 
 /// Why the reply is not that of a call which the reference answers so, where `before` is the ledger that it found.
@@ -148,7 +154,7 @@ pub type Tally = BTreeSet<(&'static str, u32)>;
 pub fn all_refusals() -> Tally {
     let refusals: [(&str, &[u32]); 8] = [
         ("open", &[1, 2, 3]),
-        ("add", &[4, 1, 5]),
+        ("add", &[4, 1, 15, 5]),
         ("add text", &[4, 11, 12, 13, 5]),
         ("strike", &[4, 1, 7]),
         ("answer", &[4, 8]),
@@ -241,7 +247,7 @@ pub fn answered(reply: &Reply) -> Vec<u32> {
 /// A sheet for which all vectors can be tried, with some equations.
 pub fn random_system(random: &mut Random) -> System {
     let (m, n) = exercises::small_shape(random);
-    let mut system = System { m, n: n as usize, equations: vec![] };
+    let mut system = System::empty(m, n as usize);
     for _ in 0..random.below(5) {
         let mut sheet = Ledger::Opened(system.clone());
         sheet.run(&Call::Add(exercises::equation(random, &system)));
@@ -271,25 +277,27 @@ pub fn random_unsolvable(random: &mut Random) -> System {
 }
 
 /// A sheet that has too many vectors to try, in most cases. Where its right sides are made to fit, it has a solution. Half of the
-/// sheets are written with residues, the others with minus signs and numbers of any size.
+/// sheets are written with residues, the others with minus signs and numbers of any size; in half of them some equations have a
+/// modulus of their own.
 pub fn full_size_system(random: &mut Random, fits: bool) -> System {
     let m = pick(random, &[2, 3, 4, 12, 60, 30_030, 32_768, 65_521, 65_535]);
-    let (n, signed) = (pick(random, &[5, 8, 15, 16]), chance(random, 2));
+    let (n, signed, mixed) = (pick(random, &[5, 8, 15, 16]), chance(random, 2), chance(random, 2));
     let solution: Vec<u32> = (0..n).map(|_| random.below(m as u64) as u32).collect();
-    let mut system = System { m, n, equations: vec![] };
+    let mut system = System::empty(m, n);
     for _ in 0..random.below(17) {
-        let mut equation: Vec<u32> = (0..n).map(|_| if chance(random, 2) { 0 } else { random.below(m as u64) as u32 }).collect();
+        let q = if mixed && chance(random, 2) { exercises::divisor(random, m) } else { m };
+        let mut equation: Vec<u32> = (0..n).map(|_| if chance(random, 2) { 0 } else { random.below(q as u64) as u32 }).collect();
         let right: u64 = equation.iter().zip(&solution).map(|(&a, &x)| a as u64 * x as u64).sum();
-        equation.push(if fits { (right % m as u64) as u32 } else { random.below(m as u64) as u32 });
-        let number = |x: &u32| if signed { exercises::written(random, m, *x) } else { *x as i64 };
-        system.equations.push(equation.iter().map(number).collect());
+        equation.push(if fits { (right % q as u64) as u32 } else { random.below(q as u64) as u32 });
+        let number = |x: &u32| if signed { exercises::written(random, q, *x) } else { *x as i64 };
+        system.add(q, equation.iter().map(number).collect());
     }
     system
 }
 
 /// A call on a sheet that reads as this ledger. A sheet that is being filled gets many equations.
 pub fn random_act(random: &mut Random, ledger: &Ledger, filling: bool) -> Act {
-    let unopened = System { m: 7, n: 2, equations: vec![] };
+    let unopened = System::empty(7, 2);
     let system = if let Ledger::Opened(system) = ledger { system } else { &unopened };
     let choice = random.below(if filling { 66 } else { 30 });
     match choice {

@@ -10,13 +10,13 @@ mod sheet;
 mod shown;
 mod spelling;
 
-use acts::{add, all_refusals, answer, answered, entering, expect, full_size_system, last, mark, open, outcomes};
+use acts::{add, add_own, all_refusals, answer, answered, entering, expect, full_size_system, last, mark, open, outcomes};
 use acts::{random_act, random_system, Tally, WRONG_PLACES};
 use exercises::{chance, pick};
 use face::LONGEST_BLOCK;
 use ledger::{Call, Ledger};
 use random::Random;
-use reference::System;
+use reference::{Line, System};
 use sheet::{Act, Desk, Outcome};
 
 fn random_acts(random: &mut Random, count: usize) -> Vec<Act> {
@@ -42,15 +42,16 @@ fn random_acts(random: &mut Random, count: usize) -> Vec<Act> {
 #[test]
 fn random_lists_of_calls_do_what_the_paper_says_and_every_call_meets_its_refusals() {
     let mut random = Random::new();
-    let (mut tally, mut signs) = (Tally::new(), 0);
+    let (mut tally, mut signs, mut own) = (Tally::new(), 0, 0);
     for _ in 0..10_000 {
         let count = 1 + random.below(60) as usize;
         let acts = random_acts(&mut random, count);
         let added = acts.iter().filter_map(|act| if let Act::Add(words) = act { Some(words) } else { None });
-        signs += added.flatten().filter(|&&word| ledger::whole(word) < 0).count();
+        signs += added.clone().flatten().filter(|&&word| ledger::whole(word) < 0).count();
+        own += added.flatten().filter(|&&word| ledger::kind(word) == ledger::OWN_MODULUS).count();
         expect(&acts, random.seed, &mut tally);
     }
-    assert!(signs > 10_000, "{signs} minus signs");
+    assert!(signs > 10_000 && own > 10_000, "{signs} minus signs, {own} equations with a modulus of their own");
     assert_eq!(tally, all_refusals(), "refusals seen, and refusals to be seen");
 }
 
@@ -90,7 +91,8 @@ fn misshapen_claims_and_equations_are_refused_with_1() {
     }
     let (a, b) = (word(ledger::COEFFICIENT, 1), word(ledger::RIGHT, 1));
     let (minus_a, minus_b) = (word(ledger::MINUS_COEFFICIENT, 1), word(ledger::MINUS_RIGHT, 1));
-    let equations: [Vec<u32>; 16] = [
+    let own = word(ledger::OWN_MODULUS, 5);
+    let equations: [Vec<u32>; 26] = [
         vec![],
         vec![a],
         vec![b],
@@ -107,11 +109,22 @@ fn misshapen_claims_and_equations_are_refused_with_1() {
         vec![minus_a, minus_a, minus_a, minus_b],
         vec![minus_a, minus_a, minus_b, minus_b],
         [vec![minus_a; 17], vec![minus_b]].concat(),
+        vec![own],
+        vec![own, a],
+        vec![own, a, b],
+        vec![own, a, a],
+        vec![own, a, a, a, b],
+        vec![own, a, a, b, b],
+        vec![own, own, a, a, b],
+        vec![a, own, a, b],
+        vec![a, a, own, b],
+        vec![a, a, b, own],
     ];
     for words in equations {
         assert_eq!(last(&[open(5, 2), Act::Add(words.clone())]), Outcome::Refused(1), "{words:x?}");
     }
     expect_kinds(&[a, a, b], |words| Act::Add(words.to_vec()), &[vec![3, 10], vec![3, 10], vec![4, 11]]);
+    expect_kinds(&[own, a, a, b], |words| Act::Add(words.to_vec()), &[vec![12], vec![3, 10], vec![3, 10], vec![4, 11]]);
     expect_kinds(&[head(1), entry(1), entry(1)], |words| Act::Mark(words.to_vec()), &[vec![5], vec![6], vec![6]]);
     let (m, n) = (word(ledger::MODULUS, 5), word(ledger::UNKNOWNS, 2));
     for words in [vec![], vec![m], vec![n, m], vec![m, n, n], vec![m, m], vec![n, n]] {
@@ -169,11 +182,13 @@ fn numbers_of_equations_are_brought_to_their_residues_with_all_their_28_bits() {
     }
 }
 
-/// The words of one equation in two writings: with whole numbers of any size and sign, and with their residues.
+/// The words of one equation in two writings: with whole numbers of any size and sign, and with their residues. Half of them have a
+/// modulus of their own.
 fn in_two_writings(random: &mut Random, m: u32, n: usize) -> [Vec<u32>; 2] {
-    let residues: Vec<u32> = (0..=n).map(|_| if chance(random, 3) { 0 } else { random.below(m as u64) as u32 }).collect();
-    let numbers: Vec<i64> = residues.iter().map(|&x| exercises::written(random, m, x)).collect();
-    [ledger::equation(&numbers), ledger::equation(&residues.iter().map(|&x| x as i64).collect::<Vec<i64>>())]
+    let q = if chance(random, 2) { exercises::divisor(random, m) } else { m };
+    let residues: Vec<i64> = (0..=n).map(|_| if chance(random, 3) { 0 } else { random.below(q as u64) as i64 }).collect();
+    let numbers: Vec<i64> = residues.iter().map(|&x| exercises::written(random, q, x as u32)).collect();
+    [numbers, residues].map(|numbers| ledger::line_words(m, &Line { q, numbers }))
 }
 
 #[test]
@@ -206,7 +221,7 @@ fn an_equation_with_signs_and_large_numbers_leaves_the_same_sheet_as_one_with_re
 }
 
 #[test]
-fn a_full_sheet_refuses_with_5_after_shape() {
+fn a_full_sheet_refuses_with_5_after_shape_and_the_modulus_of_the_equation() {
     let mut acts = vec![open(3, 1)];
     acts.extend((0..16).map(|_| add(&[1, 2])));
     assert_eq!(last(&acts), Outcome::Holds(16));
@@ -224,6 +239,14 @@ fn a_full_sheet_refuses_with_5_after_shape() {
         (ledger::equation(&[2]), 1),
         (vec![], 1),
         (vec![ledger::word(ledger::COEFFICIENT, 3), ledger::word(ledger::ENTRY, 3)], 1),
+        (ledger::own_equation(3, &[1, 2]), 5),
+        (ledger::own_equation(0, &[1, 2]), 15),
+        (ledger::own_equation(1, &[-1, 2]), 15),
+        (ledger::own_equation(2, &[1, -2]), 15),
+        (ledger::own_equation(6, &[-1, -2]), 15),
+        (ledger::own_equation(6, &[1, 1, 2]), 1),
+        (ledger::own_equation(6, &[2]), 1),
+        (vec![ledger::word(ledger::OWN_MODULUS, 6)], 1),
     ] {
         let more = [acts.clone(), vec![Act::Add(words.clone()), answer(3), Act::Strike(0), add(&[1, 2]), answer(3)]].concat();
         let found = outcomes(&more);
@@ -271,12 +294,13 @@ fn strikes_bring_back_every_earlier_answer() {
     let mut random = Random::new();
     for _ in 0..150 {
         let (m, n) = exercises::small_shape(&mut random);
-        let mut system = System { m, n: n as usize, equations: vec![] };
+        let mut system = System::empty(m, n as usize);
         let mut acts = vec![open(m, n), answer(LONGEST_BLOCK)];
         for _ in 0..16 {
-            let numbers = (0..=n).map(|_| exercises::any_whole(&mut random, m)).collect::<Vec<i64>>();
-            acts.extend([add(&numbers), answer(LONGEST_BLOCK)]);
-            system.equations.push(numbers);
+            let q = exercises::divisor(&mut random, m);
+            let numbers = (0..=n).map(|_| exercises::any_whole(&mut random, q)).collect::<Vec<i64>>();
+            acts.extend([add_own(q, &numbers), answer(LONGEST_BLOCK)]);
+            system.add(q, numbers);
         }
         for _ in 0..16 {
             acts.extend([Act::Strike(0), answer(LONGEST_BLOCK)]);

@@ -242,12 +242,12 @@ fn classes_marked_by_hand() {
         classes.push((vec![right.clone(), vec![word(kind, 2); 2]], vec![1, 101, 101]));
     }
     let mut random = Random::new();
-    let mut posed = Posed::new(System { m: 4, n: 2, equations: vec![vec![1, 2, 0]] });
+    let mut posed = Posed::new(System::plain(4, 2, vec![vec![1, 2, 0]]));
     for (claims, bytes) in classes {
         assert_eq!(posed.marks(&mut random, &claims.concat()), bytes, "{claims:x?}");
     }
     // where nothing solves the equations, so say those who are right
-    let mut posed = Posed::new(System { m: 2, n: 2, equations: vec![vec![1, 1, 1], vec![1, 1, 0]] });
+    let mut posed = Posed::new(System::plain(2, 2, vec![vec![1, 1, 1], vec![1, 1, 0]]));
     let claims = [head(0), of(1, &[0, 1]), head(0), of(2, &[0, 1, 1, 1]), head(0)];
     assert_eq!(posed.marks(&mut random, &claims.concat()), [1, 0, 1, 0, 1]);
 }
@@ -368,11 +368,11 @@ fn a_class_is_cut_as_on_the_tape() {
         let mut handed_in = handed_in_by_all(&mut random, &posed, count);
         // a stray word that begins no call on a tape
         for (_, words) in handed_in.iter_mut().filter(|(kind, _)| *kind == Kind::Flawed(Flaw::Stray)) {
-            *words = vec![word(pick(&mut random, &[0, 2, 4, 6, 7, 11, 12, 13, 14, 15]), 1)];
+            *words = vec![word(pick(&mut random, &tape::MEANINGLESS), 1)];
         }
         let words = words_of(&handed_in);
         let system = &posed.system;
-        let equations = system.equations.iter().flat_map(|equation| ledger::equation(equation));
+        let equations = system.equations.iter().flat_map(|line| ledger::line_words(system.m, line));
         let before: Vec<u32> = ledger::opening(system.m, system.n as u32).into_iter().chain(equations).collect();
         let held = system.equations.len();
         let printed = face::tape(&tape::bytes(&[before, words.clone()].concat()), 4_096);
@@ -394,7 +394,7 @@ fn steps_everywhere(random: &mut Random) -> System {
         numbers.push(numbers.iter().zip(&solution).map(|(a, x)| a * x).sum::<u64>() % m);
         numbers.iter().map(|&number| number as i64).collect()
     };
-    System { m: m as u32, n: 16, equations: (0..16).map(|_| equation(random)).collect() }
+    System::plain(m as u32, 16, (0..16).map(|_| equation(random)).collect())
 }
 
 #[test]

@@ -1,5 +1,5 @@
 //! Random words for the calls on a sheet: openings, equations and claims, most of them good, the others spoiled in one place. The
-//! numbers of equations have signs, and are residues or any that a word can have.
+//! numbers of equations have signs, and are residues or any that a word can have; some equations have a modulus of their own.
 #![allow(dead_code)]
 
 use crate::ledger::{self, Solved, LARGEST};
@@ -79,25 +79,51 @@ fn with_minus_zeros(random: &mut Random, mut words: Vec<u32>) -> Vec<u32> {
 const MINUS_ZERO: u32 = ledger::MINUS_COEFFICIENT << 28;
 const MINUS_RIGHT_ZERO: u32 = ledger::MINUS_RIGHT << 28;
 
+/// A divisor of m from 2 on, m as often as others.
+pub fn divisor(random: &mut Random, m: u32) -> u32 {
+    let one = reference::divisor_by_halving(random.below(m as u64) as u32, m);
+    let found = pick(random, &[one, m / one, m]);
+    if found < 2 {
+        m
+    } else {
+        found
+    }
+}
+
+/// A modulus for one line of a sheet mod m, or now and then a number that is none, in most cases.
+fn own_modulus(random: &mut Random, m: u32) -> u32 {
+    let any = random.below(1 << 28) as u32;
+    match random.below(6) {
+        0 => pick(random, &[0, 1, m - 1, m + 1, 2 * m, 65_536 + m, (1 << 27) + m, LARGEST as u32, any]),
+        _ => divisor(random, m),
+    }
+}
+
 /// The words of an equation: residues, or whole numbers of any size and sign; few of them or none that are not 0, or an earlier
-/// equation multiplied.
+/// equation multiplied, also so that it follows from that one. Two of five have a modulus of their own.
 pub fn equation(random: &mut Random, system: &System) -> Vec<u32> {
     let m = system.m;
+    let own = (random.below(5) < 2).then(|| own_modulus(random, m));
+    let q = own.filter(|&q| ledger::is_own_modulus(m, q)).unwrap_or(m);
     let (sparse, signed) = (chance(random, 2), chance(random, 2));
     let mut numbers: Vec<i64> = vec![];
     for _ in 0..=system.n {
-        let number = if signed { any_whole(random, m) } else { random.below(m as u64) as i64 };
+        let number = if signed { any_whole(random, q) } else { random.below(q as u64) as i64 };
         numbers.push(if sparse && chance(random, 2) { 0 } else { number });
     }
     if !system.equations.is_empty() && chance(random, 2) {
-        let factor = random.below(m as u64) as i64;
         let earlier = &system.equations[random.below(system.equations.len() as u64) as usize];
-        let residues: Vec<u32> = earlier.iter().map(|&x| reference::residue(m, x * factor)).collect();
-        numbers = residues.iter().map(|&x| if signed { written(random, m, x) } else { x as i64 }).collect();
+        let least = if chance(random, 2) { 1 } else { q / reference::divisor_by_halving(q, earlier.q) };
+        let factor = random.below(m as u64) as i64 * least as i64;
+        let residues: Vec<u32> = earlier.numbers.iter().map(|&x| reference::residue(q, x * factor)).collect();
+        numbers = residues.iter().map(|&x| if signed { written(random, q, x) } else { x as i64 }).collect();
     }
     let mut words = ledger::equation(&numbers);
     if signed {
         words = with_minus_zeros(random, words);
+    }
+    if let Some(q) = own {
+        words.insert(0, ledger::word(ledger::OWN_MODULUS, q));
     }
     sometimes_spoiled(random, words, m)
 }
@@ -271,14 +297,14 @@ fn sometimes_spoiled(random: &mut Random, words: Vec<u32>, m: u32) -> Vec<u32> {
     }
 }
 
-/// Words with one thing changed: the length, a kind, a number, or the order.
+/// Words with one thing changed: the length, a kind, a number, or the order; or with a modulus between them.
 pub fn spoiled(random: &mut Random, mut words: Vec<u32>, m: u32) -> Vec<u32> {
     let count = words.len() as u64;
     let place = random.below(count.max(1)) as usize;
     if words.is_empty() {
         return vec![random.bits() as u32];
     }
-    match random.below(10) {
+    match random.below(11) {
         0 => words.truncate(place),
         1 => words.push(words[place]),
         2 => words.insert(0, words[place]),
@@ -291,6 +317,7 @@ pub fn spoiled(random: &mut Random, mut words: Vec<u32>, m: u32) -> Vec<u32> {
             let minus = pick(random, &[ledger::MINUS_COEFFICIENT, ledger::MINUS_RIGHT]);
             words[place] = ledger::word(minus, ledger::number(words[place]));
         }
+        9 => words.insert(place, ledger::word(ledger::OWN_MODULUS, pick(random, &[0, 1, 2, m]))),
         _ => words.swap(0, place),
     }
     words

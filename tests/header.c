@@ -11,11 +11,12 @@ static const uint32_t words[] = {
     MILEBADGER_MODULUS(NUMBER), MILEBADGER_UNKNOWNS(MILEBADGER_MOST_UNKNOWNS), MILEBADGER_COEFFICIENT(0),
     MILEBADGER_RIGHT(4u), MILEBADGER_HEAD(MILEBADGER_LARGEST_HEAD), MILEBADGER_ENTRY(sizeof(char)),
     MILEBADGER_STRIKE, MILEBADGER_ANSWER, MILEBADGER_WORD(7, 7), MILEBADGER_MINUS_COEFFICIENT(NUMBER),
-    MILEBADGER_MINUS_RIGHT(0),
+    MILEBADGER_MINUS_RIGHT(0), MILEBADGER_OWN_MODULUS(NUMBER),
 };
 
-/* Minus 1 has a kind of its own, and keeps its number. */
+/* Minus 1 has a kind of its own, and keeps its number; so has the modulus of an equation. */
 typedef char kinds[MILEBADGER_MINUS_COEFFICIENT(1) == 0xA0000001 && MILEBADGER_MINUS_RIGHT(1) == 0xB0000001 ? 1 : -1];
+typedef char moduli[MILEBADGER_OWN_MODULUS(3) == 0xC0000003 && MILEBADGER_NUMBER(MILEBADGER_OWN_MODULUS(3)) == 3 ? 1 : -1];
 typedef char numbers[MILEBADGER_NUMBER(MILEBADGER_MINUS_RIGHT(MILEBADGER_LARGEST_NUMBER)) == 268435455 ? 1 : -1];
 
 static uint8_t lines[MILEBADGER_LINES_ROOM(sizeof words)];
@@ -30,7 +31,7 @@ typedef char passes[MILEBADGER_MARK(1) == MILEBADGER_PASS && MILEBADGER_MARK(0) 
 typedef char shape[MILEBADGER_MARK(101) == MILEBADGER_REFUSED_SHAPE ? 1 : -1];
 typedef char number[MILEBADGER_MARK(106) == MILEBADGER_REFUSED_NUMBER ? 1 : -1];
 
-#if MILEBADGER_VERSION < 20200 || MILEBADGER_REFUSED_CLAIMS != -14 || MILEBADGER_REASON_MISSED != 5
+#if MILEBADGER_VERSION < 20300 || MILEBADGER_REFUSED_OWN_MODULUS != -15 || MILEBADGER_REASON_MISSED != 5
 #error "names that the preprocessor cannot read"
 #endif
 
@@ -47,6 +48,7 @@ int64_t run_later(const uint8_t *bytes, int i, int64_t l)
     word ^= MILEBADGER_ENTRY(*bytes++) ^ MILEBADGER_ENTRY(i) ^ MILEBADGER_ENTRY(l);
     word ^= i < 0 ? MILEBADGER_MINUS_COEFFICIENT(-i) : MILEBADGER_COEFFICIENT(i);
     word ^= l < 0 ? MILEBADGER_MINUS_RIGHT(-l) : MILEBADGER_RIGHT(l);
+    word ^= MILEBADGER_OWN_MODULUS(*bytes++) ^ MILEBADGER_OWN_MODULUS(l);
     for (size_t j = 0; j < sizeof words / sizeof *words; j++)
         word ^= words[j];
     return milebadger_tape(bytes, MILEBADGER_NUMBER(word) % MILEBADGER_LONGEST_TAPE, lines, sizeof lines);
@@ -133,6 +135,7 @@ int kinds_of_results(int64_t result)
     case MILEBADGER_REFUSED_BEYOND:
     case MILEBADGER_REFUSED_NOT_LINEAR:
     case MILEBADGER_REFUSED_CLAIMS:
+    case MILEBADGER_REFUSED_OWN_MODULUS:
         return 1;
     default:
         return 2;

@@ -3,7 +3,7 @@
 #![allow(dead_code)]
 
 use crate::grammar::Typed;
-use crate::reference::{self, Answer, System};
+use crate::reference::{self, Answer, Line, System};
 use std::collections::BTreeSet;
 
 /// "A word has 32 bits: the top 4 are its kind, the low 28 its number."
@@ -35,6 +35,9 @@ pub const ANSWER: u32 = 9;
 pub const MINUS_COEFFICIENT: u32 = 10;
 pub const MINUS_RIGHT: u32 = 11;
 
+/// "A word of kind 12 with q precedes the equation."
+pub const OWN_MODULUS: u32 = 12;
+
 /// "Any number of 28 bits is allowed": the largest.
 pub const LARGEST: i64 = (1 << 28) - 1;
 
@@ -49,6 +52,28 @@ pub fn equation(numbers: &[i64]) -> Vec<u32> {
     let (right, coefficients) = numbers.split_last().expect("an equation has a right side");
     let coefficients = coefficients.iter().map(|&a| signed(COEFFICIENT, MINUS_COEFFICIENT, a));
     coefficients.chain([signed(RIGHT, MINUS_RIGHT, *right)]).collect()
+}
+
+/// The same with a modulus of its own in front.
+pub fn own_equation(q: u32, numbers: &[i64]) -> Vec<u32> {
+    [vec![word(OWN_MODULUS, q)], equation(numbers)].concat()
+}
+
+/// The words of a line on a sheet mod m: the modulus stands there where it is another than m.
+pub fn line_words(m: u32, line: &Line) -> Vec<u32> {
+    if line.q == m {
+        equation(&line.numbers)
+    } else {
+        own_equation(line.q, &line.numbers)
+    }
+}
+
+/// An equation's own modulus, or that of the sheet, "without it"; and the words behind it.
+pub fn parted(m: u32, words: &[u32]) -> (u32, &[u32]) {
+    match words {
+        [first, behind @ ..] if kind(*first) == OWN_MODULUS => (number(*first), behind),
+        _ => (m, words),
+    }
 }
 
 /// The whole number that a word of an equation stands for.
@@ -99,9 +124,9 @@ fn is_opening(words: &[u32]) -> bool {
     kinds(words) == [MODULUS, UNKNOWNS]
 }
 
-/// Kinds 10 and 11 "may stand wherever 3 and 4 may".
+/// Kinds 10 and 11 "may stand wherever 3 and 4 may"; kind 12 just in front, and once.
 fn is_equation(n: usize, words: &[u32]) -> bool {
-    match kinds(words).split_last() {
+    match kinds(parted(0, words).1).split_last() {
         Some((right, coefficients)) => {
             coefficients.len() == n
                 && coefficients.iter().all(|kind| [COEFFICIENT, MINUS_COEFFICIENT].contains(kind))
@@ -109,6 +134,11 @@ fn is_equation(n: usize, words: &[u32]) -> bool {
         }
         None => false,
     }
+}
+
+/// "Q below 2 or not dividing m": neither of them.
+pub fn is_own_modulus(m: u32, q: u32) -> bool {
+    q >= 2 && m % q == 0
 }
 
 /// "0 claims no solution and describes no vector, 1..17 is a starting vector with its steps."
@@ -276,18 +306,20 @@ impl Ledger {
         match (call, &mut *self) {
             (Call::Open(words), _) => {
                 let (m, n) = (number(words[0]), number(words[1]) as usize);
-                *self = Ledger::Opened(System { m, n, equations: vec![] });
+                *self = Ledger::Opened(System::empty(m, n));
                 Said::Opened { m, n }
             }
             (_, Ledger::Unopened) => unreachable!("question 4"),
             (Call::Add(words), Ledger::Opened(system)) => {
-                system.equations.push(words.iter().map(|&w| whole(w)).collect());
+                let (q, behind) = parted(system.m, words);
+                system.add(q, behind.iter().map(|&w| whole(w)).collect());
                 Said::Added(system.equations.len())
             }
             (Call::AddText(typed), Ledger::Opened(system)) => {
                 let typed = typed.as_ref().expect("question 11");
                 let numbers = typed.numbers(system.m, system.n);
-                system.equations.push(numbers.iter().map(|&number| number as i64).collect());
+                // "For typed text, q is m"
+                system.add(system.m, numbers.iter().map(|&number| number as i64).collect());
                 Said::Added(system.equations.len())
             }
             (Call::Strike(_), Ledger::Opened(system)) => {
@@ -313,7 +345,7 @@ impl Ledger {
     fn refusal(&self, call: &Call) -> Option<u32> {
         let questions: &[u32] = match call {
             Call::Open(_) => &[1, 2, 3],
-            Call::Add(_) => &[4, 1, 5],
+            Call::Add(_) => &[4, 1, 15, 5],
             Call::AddText(_) => &[4, 11, 12, 13, 5],
             Call::Strike(_) => &[4, 1, 7],
             Call::Answer(_) => &[4, 8],
@@ -338,6 +370,7 @@ impl Ledger {
             (3, Call::Open(words)) => (1..=16).contains(&number(words[1])),
             (4, _) => matches!(self, Ledger::Opened(_)),
             (1, Call::Add(words)) => is_equation(system().n, words),
+            (15, Call::Add(words)) => is_own_modulus(system().m, parted(system().m, words).0),
             (5, Call::Add(_) | Call::AddText(_)) => system().equations.len() < 16,
             (11, Call::AddText(typed)) => typed.is_some(),
             (12, Call::AddText(Some(typed))) => typed.unknowns().iter().all(|&j| j <= system().n),
@@ -408,7 +441,7 @@ pub fn reason(system: &System, vectors: &[Vec<u32>]) -> Option<Reason> {
 }
 
 /// The first equation that the start breaks; else the first step that changes a left side, and for it the first equation: behind the
-/// step it differs from what it was at the start, and not by a multiple of m.
+/// step it differs from what it was at the start, and not by a multiple of the equation's modulus.
 pub fn fault(system: &System, vectors: &[Vec<u32>]) -> Option<Reason> {
     let (start, numbers) = (&vectors[0], 1..=system.equations.len());
     if let Some(equation) = numbers.clone().find(|&equation| !system.only(equation).solved_by(start)) {
@@ -418,7 +451,7 @@ pub fn fault(system: &System, vectors: &[Vec<u32>]) -> Option<Reason> {
         let behind: Vec<u32> = start.iter().zip(&vectors[step]).map(|(&x, &y)| x + y).collect();
         let changes = |equation: &usize| {
             let line = &system.equations[equation - 1];
-            (reference::left(line, &behind) - reference::left(line, start)) % system.m as i128 != 0
+            (line.left(&behind) - line.left(start)) % line.q as i128 != 0
         };
         if let Some(equation) = numbers.clone().find(changes) {
             return Some(Reason::Changes { step, equation });
@@ -512,6 +545,61 @@ pub const REASONED: [(u32, usize, &[&[i64]], &[&[u32]], [u32; 3]); 33] = [
 
 /// A row of that table as equations and vectors.
 pub fn posed(m: u32, n: usize, equations: &[&[i64]], vectors: &[&[u32]]) -> (System, Vec<Vec<u32>>) {
-    let system = System { m, n, equations: equations.iter().map(|equation| equation.to_vec()).collect() };
+    let system = System::plain(m, n, equations.iter().map(|equation| equation.to_vec()).collect());
+    (system, vectors.iter().map(|v| v.to_vec()).collect())
+}
+
+/// Claims about equations with a modulus of their own, in front of each, with reasons that were worked out by hand.
+pub const OWN_REASONED: [(u32, usize, &[(u32, &[i64])], &[&[u32]], [u32; 3]); 34] = [
+    // mod 3 x = 2, on a sheet mod 12: 2, 5, 8 and 11
+    (12, 1, &[(3, &[1, 2])], &[], [1, 0, 0]),
+    (12, 1, &[(3, &[1, 2])], &[&[2], &[3]], [0, 0, 0]),
+    (12, 1, &[(3, &[1, 2])], &[&[11], &[9]], [0, 0, 0]),
+    (12, 1, &[(3, &[1, 2])], &[&[2]], [5, 0, 0]),
+    (12, 1, &[(3, &[1, 2])], &[&[2], &[6]], [5, 0, 0]),
+    (12, 1, &[(3, &[1, 2])], &[&[3], &[3]], [3, 0, 1]),
+    (12, 1, &[(3, &[1, 2])], &[&[2], &[3], &[4]], [4, 2, 1]),
+    // and mod 4 x = 3 beside it: 11 alone
+    (12, 1, &[(3, &[1, 2]), (4, &[1, 3])], &[], [1, 0, 0]),
+    (12, 1, &[(3, &[1, 2]), (4, &[1, 3])], &[&[11]], [0, 0, 0]),
+    (12, 1, &[(3, &[1, 2]), (4, &[1, 3])], &[&[11], &[0]], [0, 0, 0]),
+    (12, 1, &[(3, &[1, 2]), (4, &[1, 3])], &[&[3]], [3, 0, 1]),
+    (12, 1, &[(3, &[1, 2]), (4, &[1, 3])], &[&[2], &[3]], [3, 0, 2]),
+    (12, 1, &[(3, &[1, 2]), (4, &[1, 3])], &[&[11], &[4]], [4, 1, 1]),
+    (12, 1, &[(3, &[1, 2]), (4, &[1, 3])], &[&[11], &[0], &[6]], [4, 2, 2]),
+    // a step that is not 0 mod 12 changes nothing mod 2
+    (12, 1, &[(2, &[1, 1])], &[&[1], &[2]], [0, 0, 0]),
+    (12, 1, &[(2, &[1, 1])], &[&[1], &[10], &[4]], [0, 0, 0]),
+    (12, 1, &[(2, &[1, 1])], &[&[1], &[4]], [5, 0, 0]),
+    (12, 1, &[(2, &[1, 1])], &[&[1], &[2], &[3]], [4, 2, 1]),
+    // mod 3 x = 1 and x = 2
+    (12, 1, &[(3, &[1, 1]), (3, &[1, 2])], &[], [0, 0, 0]),
+    (12, 1, &[(3, &[1, 1]), (3, &[1, 2])], &[&[1], &[3]], [2, 0, 0]),
+    // mod 4 x = 3 and mod 6 x = 2: one is odd and the other even
+    (12, 1, &[(4, &[1, 3]), (6, &[1, 2])], &[], [0, 0, 0]),
+    (12, 1, &[(4, &[1, 3]), (6, &[1, 2])], &[&[3]], [2, 0, 0]),
+    // mod 4 x = 3 and mod 6 x = 5 agree about that: 11
+    (12, 1, &[(4, &[1, 3]), (6, &[1, 5])], &[&[11]], [0, 0, 0]),
+    // minus 1 mod 3 is 2: minus x = 1 is x = 2
+    (12, 1, &[(3, &[-1, 1])], &[&[11], &[3]], [0, 0, 0]),
+    (12, 1, &[(3, &[1, -1])], &[&[11]], [5, 0, 0]),
+    // a modulus of its own that is the sheet's
+    (12, 1, &[(12, &[4, 8])], &[&[2], &[3]], [0, 0, 0]),
+    (12, 1, &[(12, &[4, 6])], &[&[2], &[3]], [2, 0, 0]),
+    // mod 3 it is 0 = 1 where all coefficients are multiples of 3
+    (12, 2, &[(3, &[3, -6, 1])], &[&[0, 0]], [2, 0, 0]),
+    // mod 2 x + y = 1, and mod 3 x - y = 1
+    (12, 2, &[(2, &[1, 1, 1]), (3, &[1, -1, 1])], &[&[1, 0], &[1, 1], &[0, 6]], [0, 0, 0]),
+    (12, 2, &[(2, &[1, 1, 1]), (3, &[1, -1, 1])], &[&[1, 0], &[1, 1]], [5, 0, 0]),
+    (12, 2, &[(2, &[1, 1, 1]), (3, &[1, -1, 1])], &[&[1, 0], &[1, 1], &[0, 2]], [4, 2, 2]),
+    (12, 2, &[(2, &[1, 1, 1]), (3, &[1, -1, 1])], &[&[1, 0], &[1, 1], &[0, 3]], [4, 2, 1]),
+    (12, 2, &[(2, &[1, 1, 1]), (3, &[1, -1, 1])], &[&[1, 2], &[1, 1], &[0, 6]], [3, 0, 2]),
+    (65_535, 1, &[(255, &[1, -1])], &[&[254], &[255]], [0, 0, 0]),
+];
+
+/// A row of that table.
+pub fn posed_own(m: u32, n: usize, equations: &[(u32, &[i64])], vectors: &[&[u32]]) -> (System, Vec<Vec<u32>>) {
+    let mut system = System::empty(m, n);
+    equations.iter().for_each(|(q, numbers)| system.add(*q, numbers.to_vec()));
     (system, vectors.iter().map(|v| v.to_vec()).collect())
 }

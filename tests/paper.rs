@@ -6,13 +6,13 @@ mod reference;
 mod tape;
 
 use grammar::{Tree, Typed, ADDED, OUTSIDE, REFUSED};
-use ledger::{Call, Ledger, Reason, Said, Solved, LARGEST, REASONED};
+use ledger::{Call, Ledger, Reason, Said, Solved, LARGEST, OWN_REASONED, REASONED};
 use reference::{Answer, Congruence, System};
 use std::rc::Rc;
-use tape::{PAPER_LINES, PAPER_TAPE, SIGNED};
+use tape::{OWN, PAPER_LINES, PAPER_TAPE, SIGNED};
 
 fn system(m: u32, n: usize, equations: &[&[i64]]) -> System {
-    System { m, n, equations: equations.iter().map(|equation| equation.to_vec()).collect() }
+    System::plain(m, n, equations.iter().map(|equation| equation.to_vec()).collect())
 }
 
 /// "from .. , steps .."
@@ -78,12 +78,13 @@ fn a_class_is_as_the_request_says() {
 /// "The reason beside a failed mark": the first that holds, where it passes, and when it is turned away.
 #[test]
 fn a_reason_is_as_the_request_says() {
-    for (m, n, equations, vectors, expected) in REASONED {
-        let (system, vectors) = ledger::posed(m, n, equations, vectors);
+    let plain = REASONED.map(|(m, n, equations, vectors, expected)| (ledger::posed(m, n, equations, vectors), expected));
+    let own = OWN_REASONED.map(|(m, n, equations, vectors, expected)| (ledger::posed_own(m, n, equations, vectors), expected));
+    for ((system, vectors), expected) in plain.into_iter().chain(own) {
         let found = ledger::reason(&system, &vectors);
         assert_eq!(found.map_or([0; 3], Reason::numbers), expected, "{system:?}: {vectors:?}");
         // "a passed claim gives no reason", and each failed one does
-        let passes = ledger::described(m, &vectors) == ledger::solutions(&system);
+        let passes = ledger::described(system.m, &vectors) == ledger::solutions(&system);
         assert_eq!(found.is_none(), passes, "{system:?}: {vectors:?}");
     }
     let [none, start, number, short] = [vec![], vec![vec![1, 0]], vec![vec![4, 0]], vec![vec![1]]].map(|v| ledger::claim(&v));
@@ -135,7 +136,7 @@ fn a_residue_is_the_only_number_below_m_that_differs_by_a_multiple_of_m() {
 fn equations_with_signs_and_large_numbers_have_the_solutions_of_their_residues() {
     let written = [system(7, 2, &[&[1, -2, -1]]), system(7, 2, &[&[-6, 12, 700_006]]), system(7, 2, &[&[8, -9, -LARGEST]])];
     for system in written {
-        assert_eq!(system.reduced().equations, [[1, 5, 6]]);
+        assert_eq!(system.reduced().equations[0].numbers, [1, 5, 6]);
         assert_eq!(ledger::solve(&system), from(&[0, 4], &[&[1, 4]]));
     }
     // -2·x = 1 mod 4: twice it is 0 = 2
@@ -148,7 +149,7 @@ fn equations_with_signs_and_large_numbers_have_the_solutions_of_their_residues()
 }
 
 #[test]
-fn adding_asks_for_an_opened_sheet_the_shape_and_room_alone() {
+fn adding_asks_for_an_opened_sheet_the_shape_the_modulus_and_room_alone() {
     let mut sheet = opened(3, 2, &[]);
     let [a, b] = [ledger::word(ledger::MINUS_COEFFICIENT, 1), ledger::word(ledger::MINUS_RIGHT, 1)];
     let [plus, right] = [ledger::word(ledger::COEFFICIENT, 9), ledger::word(ledger::RIGHT, 9)];
@@ -168,6 +169,57 @@ fn adding_asks_for_an_opened_sheet_the_shape_and_room_alone() {
     }
     assert_eq!(sheet, Ledger::Opened(system(3, 2, &[&[-1, -1, -1], &[9, -1, -1], &[-1, 9, 9]])));
     assert_eq!(sheet.reduced(), Ledger::Opened(system(3, 2, &[&[2, 2, 2], &[0, 2, 2], &[2, 0, 0]])));
+}
+
+/// "Lines with a modulus of their own": the values that the request has, and the refusals in their order.
+#[test]
+fn a_modulus_of_its_own_is_as_the_request_says() {
+    let posed = |lines: &[(u32, [i64; 2])]| {
+        let mut system = System::empty(12, 1);
+        lines.iter().for_each(|(q, numbers)| system.add(*q, numbers.to_vec()));
+        system
+    };
+    assert_eq!(ledger::solve(&posed(&[(3, [1, 2])])), from(&[2], &[&[3]]));
+    assert_eq!(ledger::solve(&posed(&[(3, [1, 2]), (4, [1, 3])])), from(&[11], &[]));
+    let none = posed(&[(3, [1, 1]), (3, [1, 2])]);
+    assert_eq!(ledger::solve(&none), Solved::Nothing);
+    // 4 times the one and 44 times the other: 44 is 8 mod 12, and 4 + 8 is 0, while 4 + 16 is not
+    assert!(none.refuted_by(&[1, 11]));
+    for multipliers in [[0, 0], [1, 1], [3, 9], [1, 10]] {
+        assert!(!none.refuted_by(&multipliers), "{multipliers:?}");
+    }
+    assert_eq!(none.lines(), [4, 4, 4, 8]);
+    // "minus 1 mod 3 is 2, not 11"
+    assert_eq!(posed(&[(3, [-1, -1])]).reduced(), posed(&[(3, [2, 2])]));
+
+    let mut sheet = opened(12, 1, &[&[4, 8]]);
+    assert_eq!(sheet.run(&Call::Add(ledger::own_equation(12, &[4, 8]))), Said::Added(2));
+    assert_eq!(sheet, opened(12, 1, &[&[4, 8], &[4, 8]]), "the plain line");
+    let full = opened(12, 1, &[&[1, 1][..]; 16]);
+    for (words, said, on_a_full_sheet) in [
+        (ledger::own_equation(3, &[1, 2]), Said::Added(3), 5),
+        (ledger::own_equation(0, &[1, 2]), Said::Refused(15), 15),
+        (ledger::own_equation(1, &[1, 2]), Said::Refused(15), 15),
+        (ledger::own_equation(5, &[1, 2]), Said::Refused(15), 15),
+        (ledger::own_equation(24, &[1, 2]), Said::Refused(15), 15),
+        (ledger::own_equation(5, &[1, 1, 2]), Said::Refused(1), 1),
+        ([ledger::word(ledger::OWN_MODULUS, 3)].repeat(2), Said::Refused(1), 1),
+        ([&[ledger::word(ledger::OWN_MODULUS, 3)][..], &ledger::own_equation(3, &[1, 2])].concat(), Said::Refused(1), 1),
+        ([&ledger::equation(&[1, 2])[..], &[ledger::word(ledger::OWN_MODULUS, 3)]].concat(), Said::Refused(1), 1),
+    ] {
+        let call = Call::Add(words.clone());
+        assert_eq!(sheet.clone().run(&call), said, "{words:x?}");
+        assert_eq!(full.clone().run(&call), Said::Refused(on_a_full_sheet), "{words:x?}");
+        assert_eq!(Ledger::Unopened.run(&call), Said::Refused(4), "{words:x?}");
+    }
+}
+
+#[test]
+fn equations_with_a_modulus_of_their_own_have_the_answers_that_were_worked_out_by_hand() {
+    for (m, equations, answer) in OWN {
+        let (words, lines) = tape::own_tape(m, equations, answer);
+        prints(&tape::bytes(&words), &lines);
+    }
 }
 
 #[test]
@@ -261,7 +313,7 @@ fn prints(tape: &[u8], lines: &str) {
 
 #[test]
 fn the_tape_is_cut_into_calls_as_the_paper_says() {
-    for (words, lines) in tape::readings().into_iter().chain(tape::signed_readings()) {
+    for (words, lines) in tape::readings().into_iter().chain(tape::signed_readings()).chain(tape::own_readings()) {
         prints(&tape::bytes(&words), &lines);
     }
 }

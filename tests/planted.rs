@@ -25,21 +25,39 @@ pub fn any_vector(random: &mut Random, m: u32, n: usize) -> Vec<u32> {
     (0..n).map(|_| random.below(m as u64) as u32).collect()
 }
 
-/// Each line gets multiples of others, so that the same vectors solve them.
-fn mixed(random: &mut Random, m: u32, lines: &mut [Vec<u32>]) {
+/// A line mod m, with a divisor of m that divides all its numbers. With both sides divided by it, or by a divisor of it, the line says
+/// the same mod what is left of m.
+struct Shared {
+    divisor: u32,
+    numbers: Vec<u32>,
+}
+
+/// Each line gets multiples of others, so that the same vectors solve them, and its divisor still divides it.
+fn mixed(random: &mut Random, m: u32, lines: &mut [Shared]) {
     for _ in 0..4 * lines.len() {
         let (i, j) = (random.below(lines.len() as u64) as usize, random.below(lines.len() as u64) as usize);
         if i != j {
-            lines[i] = plus(m, &lines[i], random.below(m as u64), &lines[j]);
+            let (own, other) = (lines[i].divisor, lines[j].divisor);
+            let least = own / divisor_by_halving(own, other);
+            lines[i].numbers = plus(m, &lines[i].numbers, least as u64 * random.below(m as u64), &lines[j].numbers);
         }
     }
+}
+
+/// A line that nothing solves beside this one, which has these numbers mod m with this divisor: mod a divisor q of what is left of m,
+/// its left side would be something else too.
+fn contradiction(random: &mut Random, m: u32, line: &Shared) -> Shared {
+    let q = exercises::divisor(random, m / line.divisor);
+    let mut numbers: Vec<u32> = line.numbers.iter().map(|x| x / line.divisor).collect();
+    *numbers.last_mut().expect("a right side") += 1 + random.below(q as u64 - 1) as u32;
+    Shared { divisor: m / q, numbers: times(m, m / q, &numbers) }
 }
 
 /// Equations that are made from their solutions, and these: a start, with steps that lead to all of them. `rows` and `columns` are
 /// inverse to each other mod m. With y for the products of the rows with x, the equations say that d·y is what it is at the start, with
 /// a divisor d of m for each row: so x is the start plus multiples of m / d times the columns. Where nothing is to solve them, one more
-/// says that a multiple of d, a divisor above 1, is a multiple of d plus 1. Then they are mixed, and others that follow from them are
-/// put between.
+/// says that a multiple of d, a divisor above 1, is a multiple of d plus 1, or contradicts another. Then they are mixed, and others
+/// that follow from them are put between. In half of the sheets lines are then divided, and have a modulus of their own.
 pub fn planted(random: &mut Random, m: u32, divisors: &[u32], solvable: bool) -> (System, Answer) {
     let n = divisors.len();
     let units: Vec<Vec<u32>> = (0..n).map(|j| (0..n).map(|i| (i == j) as u32).collect()).collect();
@@ -51,26 +69,43 @@ pub fn planted(random: &mut Random, m: u32, divisors: &[u32], solvable: bool) ->
             rows[j] = plus(m, &rows[j], m as u64 - t, &rows[i]);
         }
     }
-    let start = any_vector(random, m, n);
-    let mut lines: Vec<Vec<u32>> = vec![];
+    let (start, own) = (any_vector(random, m, n), chance(random, 2));
+    let mut lines: Vec<Shared> = vec![];
     for (row, &d) in rows.iter().zip(divisors).filter(|(_, &d)| d < m) {
-        lines.push(times(m, d, &[&row[..], &[product(m, row, &start)]].concat()));
+        let numbers = times(m, d, &[&row[..], &[product(m, row, &start)]].concat());
+        lines.push(Shared { divisor: if own { d } else { 1 }, numbers });
     }
     if !solvable {
-        let d = divisors.iter().copied().find(|&d| d > 1).unwrap_or(m);
-        let mut line = times(m, d, &any_vector(random, m, n + 1));
-        line[n] = (line[n] + 1) % m;
         lines.truncate(15);
-        lines.push(line);
+        if own && !lines.is_empty() && chance(random, 2) {
+            let place = random.below(lines.len() as u64) as usize;
+            lines.push(contradiction(random, m, &lines[place]));
+        } else {
+            let d = divisors.iter().copied().find(|&d| d > 1).unwrap_or(m);
+            let mut numbers = times(m, d, &any_vector(random, m, n + 1));
+            numbers[n] = (numbers[n] + 1) % m;
+            lines.push(Shared { divisor: 1, numbers });
+        }
     }
     mixed(random, m, &mut lines);
     while !lines.is_empty() && lines.len() < 16 && !chance(random, 4) {
-        let follows = lines.iter().fold(vec![0; n + 1], |sum, line| plus(m, &sum, random.below(m as u64), line));
+        let divisor = if own { any_divisor(random, m) } else { 1 };
+        let sum = lines.iter().fold(vec![0; n + 1], |sum, line| plus(m, &sum, random.below(m as u64), &line.numbers));
+        let follows = Shared { divisor, numbers: times(m, divisor, &sum) };
         lines.insert(random.below(lines.len() as u64 + 1) as usize, follows);
     }
-    let signed = chance(random, 2);
-    let mut number = |x: &u32| if signed { exercises::written(random, m, *x) } else { *x as i64 };
-    let equations = lines.iter().map(|line| line.iter().map(&mut number).collect()).collect();
     let steps = columns.iter().zip(divisors).filter(|(_, &d)| d > 1).map(|(column, &d)| times(m, m / d, column)).collect();
-    (System { m, n, equations }, Answer { start, steps })
+    (divided(random, m, n, &lines), Answer { start, steps })
+}
+
+/// The lines as equations, each divided by a divisor of its own, so that a modulus from 2 on is left.
+fn divided(random: &mut Random, m: u32, n: usize, lines: &[Shared]) -> System {
+    let (mut system, signed) = (System::empty(m, n), chance(random, 2));
+    for line in lines {
+        let d = any_divisor(random, line.divisor);
+        let d = if d == m { 1 } else { d };
+        let number = |x: &u32| if signed { exercises::written(random, m / d, x / d) } else { (x / d) as i64 };
+        system.add(m / d, line.numbers.iter().map(number).collect());
+    }
+    system
 }

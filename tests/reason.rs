@@ -15,10 +15,10 @@ mod spelling;
 
 use acts::{entered, random_solvable, random_unsolvable, reason, replied};
 use exercises::{chance, pick, plus, Flaw};
-use ledger::{claim, word, Reason, ENTRY, MULTIPLIER, REASONED};
+use ledger::{claim, word, Reason, ENTRY, MULTIPLIER, OWN_REASONED, REASONED};
 use planted::{any_divisor, any_vector, planted, times};
 use random::Random;
-use reference::{Answer, System};
+use reference::{Answer, Line, System};
 use sheet::{Act, Desk, Outcome, Reply};
 use std::collections::BTreeMap;
 
@@ -177,7 +177,7 @@ impl<T: Copy + Ord + std::fmt::Debug> Seen<T> {
 }
 
 /// What tells the reason for a claim of some vectors from one that is nearly right.
-fn tellings(posed: &Posed, vectors: &[Vec<u32>], known: Option<Reason>) -> [(&'static str, bool); 13] {
+fn tellings(posed: &Posed, vectors: &[Vec<u32>], known: Option<Reason>) -> [(&'static str, bool); 18] {
     let (system, homogeneous) = (&posed.system, posed.system.homogeneous());
     let all = 1..=system.equations.len();
     let broken = all.clone().filter(|&equation| !system.only(equation).solved_by(&vectors[0])).count();
@@ -190,6 +190,9 @@ fn tellings(posed: &Posed, vectors: &[Vec<u32>], known: Option<Reason>) -> [(&'s
     let first = shown::solved(system).map(|answer| answer.start);
     let described = first.is_some_and(|first| shown::describes(system.m, vectors, &first));
     let [number, step, equation] = known.map_or([0; 3], Reason::numbers).map(|number| number as usize);
+    let own = |equation: usize| system.equations[equation - 1].q < system.m;
+    let mixed = all.clone().any(own);
+    let changes_mod_m = |step: &Vec<u32>| system.equations.iter().any(|line| line.left(step) % system.m as i128 != 0);
     [
         ("no solution, and a step changes an equation", number == 2 && changes),
         ("no solution, and no step changes an equation", number == 2 && !changes),
@@ -204,6 +207,11 @@ fn tellings(posed: &Posed, vectors: &[Vec<u32>], known: Option<Reason>) -> [(&'s
         ("other steps change equations too", number == 4 && changed.iter().any(|pair| pair.0 > step)),
         ("a solution is missed, and the answer's start is described", number == 5 && described),
         ("a solution is missed, and the answer's start is not described", number == 5 && !described),
+        ("no solution, and an equation has a modulus of its own", number == 2 && mixed),
+        ("the start breaks an equation with a modulus of its own", number == 3 && own(equation)),
+        ("a step changes an equation with a modulus of its own", number == 4 && own(equation)),
+        ("a solution is missed, and an equation has a modulus of its own", number == 5 && mixed),
+        ("it passes, and mod m a step would change an equation", number == 0 && vectors[1..].iter().any(changes_mod_m)),
     ]
 }
 
@@ -303,9 +311,10 @@ fn every_claim_about_every_tiny_sheet_gets_its_reason() {
         (6, 1, 1, 3),
     ];
     for (m, n, k, most) in shapes {
-        for numbers in reference::vectors(m, k * (n + 1)) {
-            let equations: Vec<Vec<u32>> = numbers.chunks(n + 1).map(|equation| equation.to_vec()).collect();
-            let mut posed = Posed::new(System::of(m, n, &equations), None);
+        let lines = reference::every_line(m, n);
+        for places in reference::vectors(lines.len() as u32, k) {
+            let equations = places.iter().map(|&place| lines[place as usize].clone()).collect();
+            let mut posed = Posed::new(System { m, n, equations }, None);
             for entries in (0..=most).flat_map(|count| reference::vectors(m, count * n)) {
                 let vectors: Vec<Vec<u32>> = entries.chunks(n).map(|v| v.to_vec()).collect();
                 let reply = posed.roomy(&vectors, 0);
@@ -319,8 +328,9 @@ fn every_claim_about_every_tiny_sheet_gets_its_reason() {
 
 #[test]
 fn reasons_that_were_worked_out_by_hand() {
-    for (m, n, equations, vectors, expected) in REASONED {
-        let (system, vectors) = ledger::posed(m, n, equations, vectors);
+    let plain = REASONED.map(|(m, n, equations, vectors, expected)| (ledger::posed(m, n, equations, vectors), expected));
+    let own = OWN_REASONED.map(|(m, n, equations, vectors, expected)| (ledger::posed_own(m, n, equations, vectors), expected));
+    for ((system, vectors), expected) in plain.into_iter().chain(own) {
         let reply = Posed::new(system.clone(), None).roomy(&vectors, 0);
         assert_eq!(reply.outcome, Outcome::Reason(expected[0]), "{system:?}: {vectors:?}");
         assert_eq!(reply.at[..2], expected[1..], "{system:?}: {vectors:?}");
@@ -421,7 +431,13 @@ fn steps_are_gone_through_before_equations_and_the_start_before_both() {
         let (n, count) = (2 + random.below(15) as usize, 1 + random.below(17) as usize);
         let there = any_vector(&mut random, m, n);
         let line = |j: usize| (0..n).map(|i| (i == j) as i64 * d as i64).chain([d as i64 * there[j] as i64]).collect();
-        let mut posed = Posed::new(System { m, n, equations: (0..n).map(line).collect() }, None);
+        let mut system = System::plain(m, n, (0..n).map(line).collect());
+        // some of them divided by d: the unknown is what it is there mod m / d
+        for (j, line) in system.equations.iter_mut().enumerate().filter(|_| chance(&mut random, 2)) {
+            let numbers = (0..n).map(|i| (i == j) as i64).chain([there[j] as i64]).collect();
+            *line = Line { q: m / d, numbers };
+        }
+        let mut posed = Posed::new(system, None);
         // the entries that are no such multiples, of the start's way from there and of each step
         let often = 2 + random.below(4 * n as u64);
         let off: Vec<Vec<bool>> = (0..count)

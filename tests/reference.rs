@@ -78,44 +78,83 @@ pub fn residue(m: u32, whole: i64) -> u32 {
     whole.rem_euclid(m as i64) as u32
 }
 
-/// A list of equations mod m in n unknowns; an equation is n coefficients and a right side. They are kept as they were written, as
+/// An equation: n coefficients and a right side, and the modulus q that it is read by. Its numbers are kept as they were written, as
 /// whole numbers with their signs, and nothing here that looks for solutions reduces them.
+#[derive(Clone, Debug, PartialEq)]
+pub struct Line {
+    pub q: u32,
+    pub numbers: Vec<i64>,
+}
+
+impl Line {
+    /// The left side: the sum of coefficient times entry, a whole number.
+    pub fn left(&self, vector: &[u32]) -> i128 {
+        vector.iter().zip(&self.numbers).map(|(&x, &a)| x as i128 * a as i128).sum()
+    }
+
+    /// "The line holds if both sides agree mod q": their difference, a whole number, is a multiple of q.
+    pub fn solved_by(&self, vector: &[u32]) -> bool {
+        let right = self.numbers[self.numbers.len() - 1];
+        (self.left(vector) - right as i128) % self.q as i128 == 0
+    }
+
+    /// "Its numbers become residues mod q."
+    pub fn reduced(&self) -> Line {
+        Line { q: self.q, numbers: self.numbers.iter().map(|&number| residue(self.q, number) as i64).collect() }
+    }
+}
+
+/// A list of equations in n unknowns on a sheet mod m; the modulus of each divides m.
 #[derive(Clone, Debug, PartialEq)]
 pub struct System {
     pub m: u32,
     pub n: usize,
-    pub equations: Vec<Vec<i64>>,
+    pub equations: Vec<Line>,
 }
 
 impl System {
-    /// These equations, of numbers without signs.
+    pub fn empty(m: u32, n: usize) -> System {
+        System { m, n, equations: vec![] }
+    }
+
+    /// These equations, without a modulus of their own: "q is m".
+    pub fn plain(m: u32, n: usize, equations: Vec<Vec<i64>>) -> System {
+        System { m, n, equations: equations.into_iter().map(|numbers| Line { q: m, numbers }).collect() }
+    }
+
+    /// The same, of numbers without signs.
     pub fn of(m: u32, n: usize, equations: &[Vec<u32>]) -> System {
         let whole = |equation: &Vec<u32>| equation.iter().map(|&number| number as i64).collect();
-        System { m, n, equations: equations.iter().map(whole).collect() }
+        System::plain(m, n, equations.iter().map(whole).collect())
+    }
+
+    /// Puts an equation with the modulus q behind the others.
+    pub fn add(&mut self, q: u32, numbers: Vec<i64>) {
+        self.equations.push(Line { q, numbers });
     }
 
     /// The same equations written with residues.
     pub fn reduced(&self) -> System {
-        let lines: Vec<Vec<u32>> = self.lines().chunks(self.n + 1).map(|line| line.to_vec()).collect();
-        System::of(self.m, self.n, &lines)
+        System { equations: self.equations.iter().map(Line::reduced).collect(), ..self.clone() }
     }
 
-    /// The equations as milebadger_solve takes them: residues, one equation behind the other.
+    /// The equations as milebadger_solve takes them, which knows no modulus but m: both sides times m / q, as residues, one equation
+    /// behind the other.
     pub fn lines(&self) -> Vec<u32> {
-        self.equations.iter().flatten().map(|&number| residue(self.m, number)).collect()
+        let times = |line: &Line, number: i64| residue(self.m, number * (self.m / line.q) as i64);
+        self.equations.iter().flat_map(|line| line.numbers.iter().map(move |&number| times(line, number))).collect()
     }
 
     /// The same equations "with right sides put to 0".
     pub fn homogeneous(&self) -> System {
         let mut equations = self.equations.clone();
-        equations.iter_mut().for_each(|equation| equation[self.n] = 0);
+        equations.iter_mut().for_each(|line| line.numbers[self.n] = 0);
         System { equations, ..self.clone() }
     }
 
-    /// "A vector solves an equation if the sum of coefficient times entry leaves the right side mod m": their difference, a whole
-    /// number, is a multiple of m.
+    /// "A vector solves an equation if the sum of coefficient times entry leaves the right side", each mod its q.
     pub fn solved_by(&self, vector: &[u32]) -> bool {
-        self.equations.iter().all(|equation| (left(equation, vector) - equation[self.n] as i128) % self.m as i128 == 0)
+        self.equations.iter().all(|line| line.solved_by(vector))
     }
 
     /// The equation with this number, "from 1", alone.
@@ -124,10 +163,11 @@ impl System {
     }
 
     /// "Multipliers, one residue for each equation, such that the equations so multiplied add up mod m to zero coefficients and a
-    /// non-zero right side."
+    /// non-zero right side"; they "apply to the line with both sides times m/q, still mod m".
     pub fn refuted_by(&self, multipliers: &[u32]) -> bool {
+        let times = |line: &Line, j: usize| (self.m / line.q) as i128 * line.numbers[j] as i128;
         let is_multiple = |j: usize| -> bool {
-            let sum: i128 = multipliers.iter().zip(&self.equations).map(|(&c, equation)| c as i128 * equation[j] as i128).sum();
+            let sum: i128 = multipliers.iter().zip(&self.equations).map(|(&c, line)| c as i128 * times(line, j)).sum();
             sum % self.m as i128 == 0
         };
         multipliers.len() == self.equations.len()
@@ -137,9 +177,11 @@ impl System {
     }
 }
 
-/// The left side of an equation: the sum of coefficient times entry, a whole number.
-pub fn left(equation: &[i64], vector: &[u32]) -> i128 {
-    vector.iter().zip(equation).map(|(&x, &a)| x as i128 * a as i128).sum()
+/// Every equation in n unknowns that a sheet mod m can hold, written with residues.
+pub fn every_line(m: u32, n: usize) -> Vec<Line> {
+    let whole = |numbers: Vec<u32>| numbers.into_iter().map(|number| number as i64).collect();
+    let of = |q: u32| vectors(q, n + 1).map(move |numbers| Line { q, numbers: whole(numbers) });
+    (2..=m).filter(|q| m % q == 0).flat_map(of).collect()
 }
 
 /// The vectors of n residues in dictionary order.

@@ -17,16 +17,16 @@ int main(void)
         MILEBADGER_REFUSED_SHAPE, MILEBADGER_REFUSED_MODULUS, MILEBADGER_REFUSED_UNKNOWNS, MILEBADGER_REFUSED_UNOPENED,
         MILEBADGER_REFUSED_FULL, MILEBADGER_REFUSED_NUMBER, MILEBADGER_REFUSED_NOTHING_TO_STRIKE, MILEBADGER_REFUSED_BUFFER,
         MILEBADGER_REFUSED_LEFT_OVER, MILEBADGER_REFUSED_TAPE, MILEBADGER_REFUSED_TEXT, MILEBADGER_REFUSED_BEYOND,
-        MILEBADGER_REFUSED_NOT_LINEAR, MILEBADGER_REFUSED_CLAIMS,
+        MILEBADGER_REFUSED_NOT_LINEAR, MILEBADGER_REFUSED_CLAIMS, MILEBADGER_REFUSED_OWN_MODULUS,
     };
-    const int64_t made[] = {MILEBADGER_FAIL, MILEBADGER_PASS, 16, INT64_MAX}, none[] = {-15, -16, INT64_MIN};
+    const int64_t made[] = {MILEBADGER_FAIL, MILEBADGER_PASS, 16, INT64_MAX}, none[] = {-16, -17, INT64_MIN};
     const int64_t reasons[] = {
         MILEBADGER_REASON_SOLVABLE, MILEBADGER_REASON_UNSOLVABLE, MILEBADGER_REASON_START, MILEBADGER_REASON_STEP,
         MILEBADGER_REASON_MISSED,
     };
-    const char *sentence[14];
+    const char *sentence[15];
 
-    for (int i = 0; i < 14; i++) {
+    for (int i = 0; i < 15; i++) {
         sentence[i] = milebadger_sentence(refused[i]);
         if (refused[i] != -(i + 1) || MILEBADGER_MARK(101 + i) != refused[i] || strlen(sentence[i]) < 10)
             return fault(refused[i], sentence[i]);

@@ -1,5 +1,5 @@
 """The package's shared library, called from Python: a fresh sheet, each call on it, refusals that keep every byte, numbers with a
-sign, threads that share a sheet, the version.
+sign, equations with a modulus of their own, threads that share a sheet, the version.
 
 usage: tests/shared.py LIBRARY HEADER
 """
@@ -32,7 +32,7 @@ for name, arguments in {
     function.restype = ctypes.c_int64
 
 MODULUS, UNKNOWNS, COEFFICIENT, RIGHT, HEAD, ENTRY, MULTIPLIER = range(1, 8)
-MINUS_COEFFICIENT, MINUS_RIGHT = 10, 11
+MINUS_COEFFICIENT, MINUS_RIGHT, OWN_MODULUS = 10, 11, 12
 
 library.milebadger_congruence.argtypes = [ctypes.c_int32, ctypes.c_int32, ctypes.c_uint32, Words, ctypes.c_size_t]
 library.milebadger_congruence.restype = ctypes.c_int64
@@ -47,6 +47,11 @@ def equation(*numbers):
     """Those below 0 with a minus sign."""
     kinds = [(MINUS_COEFFICIENT, COEFFICIENT)] * (len(numbers) - 1) + [(MINUS_RIGHT, RIGHT)]
     return words(*((kind[number >= 0], abs(number)) for kind, number in zip(kinds, numbers)))
+
+
+def own(q, *numbers):
+    """An equation with a modulus of its own."""
+    return (ctypes.c_uint32 * (len(numbers) + 1))(OWN_MODULUS << 28 | q, *equation(*numbers))
 
 
 def text(typed):
@@ -191,6 +196,43 @@ same(call("strike", 0), 1)
 same(lend("mark", words((HEAD, 0))), 0)
 sheet = first
 same(lend("mark", block(2, 0, 0, 2, 3)), 1)
+
+# A clock: mod 12, x = 2 mod 3 and, with a minus sign, x = 3 mod 4.
+sheet = Sheet()
+refused(-4, "add", own(3, 1, 2), 3)
+same(lend("open", words((MODULUS, 12), (UNKNOWNS, 1))), 0)
+for modulus in [0, 1, 5, 24]:
+    refused(-15, "add", own(modulus, 1, 2), 3)
+    refused(-1, "add", own(modulus, 1, 1, 2), 4)
+refused(-1, "add", own(3, 1, 2), 2)
+refused(-1, "add", words((OWN_MODULUS, 3), (OWN_MODULUS, 3), (COEFFICIENT, 1), (RIGHT, 2)), 4)
+refused(-1, "add", words((COEFFICIENT, 1), (OWN_MODULUS, 3), (RIGHT, 2)), 3)
+same(lend("add", own(3, 1, 2)), 1)
+same(lend("answer", out), 3)
+same(out[:3], block(2, 2, 3)[:])
+same(lend("add", own(4, 1, -1)), 2)
+same(lend("answer", out), 2)
+same(out[:2], block(1, 11)[:])
+same([lend("mark", block(1, 11)), lend("mark", block(2, 2, 3))], [1, 0])
+same(reason(1, 8), (3, 0, 2, []))
+same(reason(2, 11, 6), (4, 1, 2, []))
+# x = 1 mod 3 contradicts the first line; the multipliers go with 4x = 8, 3x = 9 and 4x = 4
+same(lend("add", own(3, 1, 1)), 3)
+number, step, place, multipliers = reason(1, 11)
+same((number, step, place, [kind for kind, _ in multipliers]), (2, 0, 0, [MULTIPLIER] * 3))
+c, d, e = (number for _, number in multipliers)
+same(((4 * c + 3 * d + 4 * e) % 12, (8 * c + 9 * d + 4 * e) % 12 == 0), (0, False))
+same(call("strike", 0), 2)
+# 12 itself is the plain line
+plain = Sheet.from_buffer_copy(sheet)
+same(lend("add", own(12, -1, 1)), 3)
+with_modulus, sheet = sheet, plain
+same(lend("add", equation(-1, 1)), 3)
+same(bytes(with_modulus), bytes(sheet))
+while lend("add", own(2, 1, 1)) != 16:
+    pass
+refused(-5, "add", own(2, 1, 1), 3)
+refused(-15, "add", own(5, 1, 1), 3)
 
 # -1·t = 1 mod 65,535; and t = b, whose least solution is the residue of b.
 pair = (ctypes.c_uint32 * 2)()

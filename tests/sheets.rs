@@ -11,7 +11,7 @@ mod sheet;
 mod shown;
 mod spelling;
 
-use acts::{add, add_text, all_refusals, answer, class, entering, mark, open, random_act, random_system, reason, step};
+use acts::{add, add_own, add_text, all_refusals, answer, class, entering, mark, open, random_act, random_system, reason, step};
 use acts::{Tally, WRONG_PLACES};
 use exercises::{chance, pick};
 use face::LONGEST_BLOCK;
@@ -25,18 +25,34 @@ use std::collections::BTreeMap;
 const MODULUS: usize = 0;
 const UNKNOWNS: usize = 1;
 const HELD: usize = 2;
-const CELLS: usize = 3;
+/// One modulus for each of 16 lines, and then the cells.
+const MODULI: usize = 3;
+const CELLS: usize = 19;
 
-/// The lines of the equations held: n coefficients and a right side each, one behind the other. For n up to 16 and k up to 16.
-fn lines(numbers: &[u32]) -> impl Iterator<Item = &[u32]> {
-    numbers[CELLS..].chunks(numbers[UNKNOWNS] as usize + 1).take(numbers[HELD] as usize)
+/// The lines of the equations held: the modulus q of each, and its cells, n coefficients and a right side, all of them times m / q.
+/// For n up to 16 and k up to 16.
+fn lines(numbers: &[u32]) -> impl Iterator<Item = (u32, &[u32])> {
+    let cells = numbers[CELLS..].chunks(numbers[UNKNOWNS] as usize + 1);
+    numbers[MODULI..CELLS].iter().copied().zip(cells).take(numbers[HELD] as usize)
+}
+
+/// Some cell of a line is no multiple of m / q, where q may be its modulus.
+fn is_uneven(m: u32, q: u32, cells: &[u32]) -> bool {
+    m > 0 && ledger::is_own_modulus(m, q) && cells.iter().any(|cell| cell % (m / q) != 0)
 }
 
 /// What keeps the numbers from being an opened sheet.
 fn faults(numbers: &[u32]) -> Vec<&'static str> {
     let (m, n, k) = (numbers[MODULUS], numbers[UNKNOWNS], numbers[HELD]);
-    let cell = n <= 16 && k <= 16 && lines(numbers).flatten().any(|&cell| cell >= m);
-    let all = [("modulus", !(2..=65_535).contains(&m)), ("unknowns", !(1..=16).contains(&n)), ("held", k > 16), ("cell", cell)];
+    let held: Vec<(u32, &[u32])> = if n <= 16 && k <= 16 { lines(numbers).collect() } else { vec![] };
+    let all = [
+        ("modulus", !(2..=65_535).contains(&m)),
+        ("unknowns", !(1..=16).contains(&n)),
+        ("held", k > 16),
+        ("own modulus", held.iter().any(|&(q, _)| !ledger::is_own_modulus(m, q))),
+        ("cell", held.iter().any(|(_, cells)| cells.iter().any(|&cell| cell >= m))),
+        ("multiple", held.iter().any(|&(q, cells)| is_uneven(m, q, cells))),
+    ];
     all.iter().filter(|(_, found)| *found).map(|(name, _)| *name).collect()
 }
 
@@ -45,8 +61,10 @@ fn reading(numbers: &[u32]) -> Ledger {
     if !faults(numbers).is_empty() {
         return Ledger::Unopened;
     }
-    let equations: Vec<Vec<u32>> = lines(numbers).map(|line| line.to_vec()).collect();
-    Ledger::Opened(System::of(numbers[MODULUS], numbers[UNKNOWNS] as usize, &equations))
+    let m = numbers[MODULUS];
+    let mut system = System::empty(m, numbers[UNKNOWNS] as usize);
+    lines(numbers).for_each(|(q, cells)| system.add(q, cells.iter().map(|&cell| (cell / (m / q)) as i64).collect()));
+    Ledger::Opened(system)
 }
 
 /// The numbers of a sheet that was just opened.
@@ -54,10 +72,17 @@ fn opened(m: u32, n: u32) -> Vec<u32> {
     [vec![m, n], vec![0; NUMBERS - 2]].concat()
 }
 
-/// Puts a line behind those that are held.
-fn enter(numbers: &mut Vec<u32>, line: Vec<u32>) {
-    let at = CELLS + numbers[HELD] as usize * line.len();
-    numbers.splice(at..at + line.len(), line);
+/// Writes a line with the modulus q and these residues to its place, in a sheet of as many unknowns.
+fn write(numbers: &mut [u32], place: usize, q: u32, residues: &[u32]) {
+    let (times, at) = (numbers[MODULUS] / q, CELLS + place * residues.len());
+    let cells: Vec<u32> = residues.iter().map(|residue| times * residue).collect();
+    numbers[MODULI + place] = q;
+    numbers[at..at + cells.len()].copy_from_slice(&cells);
+}
+
+/// Puts a line with the modulus q and these residues behind those that are held.
+fn enter(numbers: &mut [u32], q: u32, residues: &[u32]) {
+    write(numbers, numbers[HELD] as usize, q, residues);
     numbers[HELD] += 1;
 }
 
@@ -68,14 +93,16 @@ fn after(numbers: &[u32], act: &Act, outcome: Outcome) -> Vec<u32> {
         (_, Outcome::Refused(_)) => {}
         (Act::Open(words), _) => numbers = opened(number(words[0]), number(words[1])),
         (Act::Add(words), _) => {
-            // "The ledger holds residues"
-            let line = words.iter().map(|&word| reference::residue(numbers[MODULUS], ledger::whole(word))).collect();
-            enter(&mut numbers, line);
+            // "Its numbers become residues mod q"
+            let (q, behind) = ledger::parted(numbers[MODULUS], words);
+            let line: Vec<u32> = behind.iter().map(|&word| reference::residue(q, ledger::whole(word))).collect();
+            enter(&mut numbers, q, &line);
         }
         (Act::AddText(text), _) => {
             let typed = grammar::read(text).expect("refused with 11");
-            let line = typed.numbers(numbers[MODULUS], numbers[UNKNOWNS] as usize);
-            enter(&mut numbers, line);
+            let m = numbers[MODULUS];
+            let line = typed.numbers(m, numbers[UNKNOWNS] as usize);
+            enter(&mut numbers, m, &line);
         }
         (Act::Strike(_), _) => numbers[HELD] -= 1,
         (Act::Answer(_) | Act::Mark(_) | Act::MarkBlock | Act::Class(..) | Act::Reason(..), _) => {}
@@ -98,12 +125,13 @@ fn expect(desk: &mut Desk, act: &Act, seed: u64, tally: &mut Tally) -> Outcome {
 
 /// Each call on a sheet of its own with these numbers, good ones and refused ones.
 fn expect_each(random: &mut Random, numbers: &[u32], tally: &mut Tally) {
-    let unopened = System { m: 7, n: 2, equations: vec![] };
+    let unopened = System::empty(7, 2);
     let system = if let Ledger::Opened(system) = reading(numbers) { system } else { unopened };
     let (ones, plus) = (vec![1; system.n], vec![1; system.n]);
     let minus = vec![-(system.m as i64) - 1; system.n];
     let (claims, stray) = (exercises::class(random, &system), [exercises::stray(random)]);
     let (one, some) = (ledger::claim(&[ones.clone()]), exercises::claim(random, &system));
+    let (m, own) = (system.m, exercises::divisor(random, system.m));
     for act in [
         open(5, 3),
         open(1, 1),
@@ -113,6 +141,12 @@ fn expect_each(random: &mut Random, numbers: &[u32], tally: &mut Tally) {
         add(&[&minus[..], &[-ledger::LARGEST]].concat()),
         add(&plus),
         add(&minus),
+        add_own(own, &[&minus[..], &[m as i64 + 1]].concat()),
+        add_own(m, &[&plus[..], &[0]].concat()),
+        add_own(m + 1, &[&plus[..], &[0]].concat()),
+        add_own(pick(random, &[0, 1, 2 * m]), &[&plus[..], &[0]].concat()),
+        add_own(m + 1, &plus),
+        add_own(own, &minus),
         add_text("2 * (x1 - 3) = 1"),
         add_text("2 (x1 - 3) = 1"),
         add_text("x16 = 0"),
@@ -160,44 +194,116 @@ fn expect_list(random: &mut Random, numbers: &[u32], tally: &mut Tally) {
 fn expect_faults(sheets: &[Vec<u32>], least: usize) {
     let mut times = BTreeMap::new();
     sheets.iter().for_each(|numbers| *times.entry(faults(numbers)).or_insert(0) += 1);
-    for faults in [vec![], vec!["modulus"], vec!["unknowns"], vec!["held"], vec!["cell"]] {
+    for faults in [vec![], vec!["modulus"], vec!["unknowns"], vec!["held"], vec!["own modulus"], vec!["cell"], vec!["multiple"]] {
         assert!(times.get(&faults).is_some_and(|&times| times >= least), "{faults:?} among {times:?}");
     }
 }
 
-/// Puts one number to a value near a limit of its place, or to any.
-fn disturb(random: &mut Random, numbers: &mut [u32]) {
-    let m = numbers[MODULUS];
-    let held: usize = if faults(numbers).is_empty() { lines(numbers).map(<[u32]>::len).sum() } else { 0 };
-    let any = random.bits() as u32;
-    match random.below(6) {
-        0 => numbers[MODULUS] = pick(random, &[0, 1, 2, 3, 65_535, 65_536, 65_537, u32::MAX, any]),
-        1 => numbers[UNKNOWNS] = pick(random, &[0, 1, 2, 15, 16, 17, 255, (1 << 31) - 1, u32::MAX, any]),
-        2 => numbers[HELD] = pick(random, &[0, 1, 2, 15, 16, 17, 18, 1 << 28, 1 << 31, u32::MAX, any]),
-        _ => {
-            let near = CELLS + held.saturating_sub(1) + random.below(2) as usize;
-            let cells = [CELLS + random.below(held.max(1) as u64) as usize, near, CELLS + random.below(288) as usize];
-            let values = [m, m, m.wrapping_sub(1), m.wrapping_add(1), 0, 65_535, 65_536, u32::MAX, any];
-            numbers[pick(random, &cells)] = pick(random, &values);
+/// A small number other than 1 and m that divides m, if there is one.
+fn part(m: u32) -> Option<u32> {
+    (2..=5).find(|&q| q < m && m % q == 0)
+}
+
+/// Multiplies the modulus, so that it is just too large, and of each line its modulus or its cells: all other limits are kept.
+fn grow(random: &mut Random, numbers: &mut [u32]) {
+    let (width, factor) = (numbers[UNKNOWNS] as usize + 1, 65_535 / numbers[MODULUS] + 1);
+    numbers[MODULUS] *= factor;
+    for place in 0..numbers[HELD] as usize {
+        match random.below(2) {
+            0 => numbers[MODULI + place] *= factor,
+            _ => numbers[CELLS + place * width..][..width].iter_mut().for_each(|cell| *cell *= factor),
         }
     }
 }
 
-/// Numbers of an opened sheet whose cells behind the equations are any; in half of them one or two numbers are disturbed.
+/// Puts the modulus of a line to a value near a limit, or to any. In half of the cases its cells go with it, so that none of them is
+/// too large, and all are multiples of m / q as far as there is such a number.
+fn disturb_modulus(random: &mut Random, numbers: &mut [u32], place: usize) {
+    let (m, width, any) = (numbers[MODULUS], numbers[UNKNOWNS] as usize + 1, random.bits() as u32);
+    let divisor = exercises::divisor(random, m);
+    let q = pick(random, &[0, 1, 2, m - 1, m + 1, 2 * m, divisor, m / divisor, u32::MAX, any]);
+    numbers[MODULI + place] = q;
+    if chance(random, 2) {
+        let times = m / q.max(1);
+        numbers[CELLS + place * width..][..width].iter_mut().for_each(|cell| *cell = *cell % q.max(1) * times);
+    }
+}
+
+/// Puts one cell of a line to a value near a limit: m, and the multiples of m / q.
+fn disturb_cell(random: &mut Random, numbers: &mut [u32], place: usize) {
+    let (m, width) = (numbers[MODULUS], numbers[UNKNOWNS] as usize + 1);
+    let (q, times) = (numbers[MODULI + place], m / numbers[MODULI + place]);
+    let values = [m - 1, m, m, m + 1, m + times, m - times, m - times + 1, times, times - 1, times + 1, q, q - 1, 65_536, u32::MAX];
+    numbers[CELLS + place * width + random.below(width as u64) as usize] = pick(random, &values);
+}
+
+/// Makes of a line, the first one where none is held, one whose modulus divides m, and puts one of its cells beside a multiple of
+/// m / q, where there is room.
+fn disturb_multiple(random: &mut Random, numbers: &mut [u32], place: usize) {
+    let (m, width) = (numbers[MODULUS], numbers[UNKNOWNS] as usize + 1);
+    let q = part(m).map_or(m, |part| pick(random, &[part, m / part]));
+    let times = m / q;
+    (numbers[HELD], numbers[MODULI + place]) = (numbers[HELD].max(1), q);
+    let cells = &mut numbers[CELLS + place * width..][..width];
+    cells.iter_mut().for_each(|cell| *cell = *cell % m / times * times);
+    cells[random.below(width as u64) as usize] += pick(random, &[1, times / 2, times - 1]);
+}
+
+/// Puts any of the moduli of lines and of the cells to a value near a limit of the sheet's modulus, or to any: where the equations
+/// held end in most cases.
+fn disturb_any(random: &mut Random, numbers: &mut [u32], held: usize) {
+    let (m, any) = (numbers[MODULUS], random.bits() as u32);
+    let end = if held == 0 { 0 } else { held * (numbers[UNKNOWNS] as usize + 1) };
+    let beside = |at: usize, random: &mut Random| (at + random.below(2) as usize).saturating_sub(1);
+    let places = [
+        MODULI + beside(held, random).min(15),
+        CELLS + random.below(end.max(1) as u64) as usize,
+        CELLS + beside(end, random).min(271),
+        MODULI + random.below(288) as usize,
+    ];
+    let values = [m, m, m.wrapping_sub(1), m.wrapping_add(1), 0, 65_535, 65_536, u32::MAX, any];
+    numbers[pick(random, &places)] = pick(random, &values);
+}
+
+/// Puts one number to a value near a limit of its place, or to any. With some go others.
+fn disturb(random: &mut Random, numbers: &mut [u32]) {
+    let (m, any) = (numbers[MODULUS], random.bits() as u32);
+    let good = faults(numbers).is_empty();
+    let held = if good { numbers[HELD] as usize } else { 0 };
+    let place = random.below(held.max(1) as u64) as usize;
+    match random.below(22) {
+        0..=1 if good => grow(random, numbers),
+        0..=2 => numbers[MODULUS] = pick(random, &[0, 1, 2, 3, m.wrapping_mul(2), 65_535, 65_536, 65_537, u32::MAX, any]),
+        3..=4 => numbers[UNKNOWNS] = pick(random, &[0, 1, 2, 15, 16, 17, 255, (1 << 31) - 1, u32::MAX, any]),
+        5..=6 => numbers[HELD] = pick(random, &[0, 1, 2, 15, 16, 17, 18, 1 << 28, 1 << 31, u32::MAX, any]),
+        7..=8 if held > 0 => disturb_modulus(random, numbers, place),
+        9..=12 if held > 0 => disturb_cell(random, numbers, place),
+        13..=18 if good => disturb_multiple(random, numbers, place),
+        _ => disturb_any(random, numbers, held),
+    }
+}
+
+/// Numbers of an opened sheet that holds some of 16 lines; in half of the sheets the others are any numbers, and in three of four
+/// one or two numbers are disturbed.
 fn plausible(random: &mut Random) -> Vec<u32> {
     let (m, n) = if chance(random, 8) {
         (pick(random, &[2, 12, 32_768, 65_521, 65_535]), pick(random, &[1, 8, 15, 16]))
     } else {
         exercises::small_shape(random)
     };
+    let (tidy, mut numbers) = (chance(random, 2), opened(m, n));
     let k = pick(random, &[0, 1, 2, 3, 4, 15, 16]);
-    let tidy = chance(random, 2);
-    let mut numbers = vec![m, n, k];
-    for cell in 0..288 {
-        let below = tidy || cell < k * (n + 1);
-        numbers.push(if below { random.below(m as u64) as u32 } else { random.any_length() });
+    for place in 0..if tidy { 16 } else { k } {
+        let q = if chance(random, 2) { exercises::divisor(random, m) } else { m };
+        let residues: Vec<u32> = (0..=n).map(|_| random.below(q as u64) as u32).collect();
+        write(&mut numbers, place, q, &residues);
     }
-    for _ in 0..pick(random, &[0, 0, 1, 2]) {
+    numbers[HELD] = k as u32;
+    if !tidy {
+        let end = CELLS + k * (n as usize + 1);
+        (MODULI + k..CELLS).chain(end..NUMBERS).for_each(|place| numbers[place] = random.any_length());
+    }
+    for _ in 0..pick(random, &[0, 1, 1, 2]) {
         disturb(random, &mut numbers);
     }
     numbers
@@ -300,27 +406,73 @@ fn plausible_sheets_answer_every_call() {
     expect_kind(50, plausible);
 }
 
+/// A sheet, opened or not, that holds k lines, the greatest there are with the modulus q; and all behind them is the same.
+fn greatest(m: u32, n: u32, k: u32, q: u32) -> Vec<u32> {
+    [vec![m, n, k], vec![q; 16], vec![m - m / q.max(1); 272]].concat()
+}
+
+/// Places of such a sheet, and numbers beside a limit there: the first cell and the last one of the equations, the one behind it, and
+/// the last of all; and where equations are read, the first and the last modulus of a line too, and the one behind it.
+fn beside_limits(m: u32, n: u32, k: u32, q: u32) -> Vec<(usize, u32)> {
+    let (below, above, held) = (m.saturating_sub(1), m.wrapping_add(1), k.min(16) as usize);
+    let (end, last) = (CELLS + held * (n.min(16) as usize + 1), MODULI + held.max(1) - 1);
+    let last_cell = (end - 1).max(CELLS);
+    let mut places = vec![(CELLS, m), (last_cell, m), (end, m), (NUMBERS - 1, m)];
+    if (1..=16).contains(&n) && k <= 16 {
+        places.extend([(MODULI, 0), (MODULI, above), (last, 0), (last, 1), (last, above), (MODULI + held, 0)]);
+        places.extend([(CELLS, m / q.max(1) + 1), (last_cell, above), (last_cell, below)]);
+    }
+    places.into_iter().filter(|(place, _)| *place < NUMBERS).collect()
+}
+
 #[test]
 fn the_limits_of_each_number_decide_whether_a_sheet_is_opened() {
     let mut random = Random::new();
     let (mut tally, mut sheets) = (Tally::new(), vec![]);
+    let mut add = |m: u32, n: u32, k: u32, q: u32| {
+        let numbers = greatest(m, n, k, q);
+        for (place, value) in beside_limits(m, n, k, q) {
+            let mut other = numbers.clone();
+            other[place] = value;
+            sheets.push(other);
+        }
+        sheets.push(numbers);
+    };
     for m in [0, 1, 2, 65_535, 65_536, u32::MAX] {
         for n in [0, 1, 16, 17, (1 << 31) - 1, u32::MAX] {
             for k in [0, 1, 15, 16, 17, 1 << 28, 1 << 31, u32::MAX] {
-                let below = [vec![m, n, k], vec![m.saturating_sub(1); 288]].concat();
-                sheets.push(below.clone());
-                // the first cell, the last one of the equations, the one behind it, and the last of all
-                let end = (k.min(16) * (n.min(16) + 1)) as usize;
-                for cell in [0, end.saturating_sub(1), end, 287] {
-                    let mut above = below.clone();
-                    above[CELLS + cell] = m;
-                    sheets.push(above);
+                add(m, n, k, m);
+                if let (Some(part), 1..=16, 1..=16) = (part(m), n, k) {
+                    add(m, n, k, part);
+                    add(m, n, k, m / part);
                 }
             }
         }
     }
     sheets.iter().for_each(|numbers| expect_each(&mut random, numbers, &mut tally));
     expect_faults(&sheets, 10);
+}
+
+#[test]
+fn every_line_of_two_numbers_is_read_by_its_modulus() {
+    let (mut tally, mut sheets) = (Tally::new(), vec![]);
+    for m in 2..=12u32 {
+        for numbers in 0..(m + 2).pow(3) {
+            let (q, coefficient, right) = (numbers / (m + 2).pow(2), numbers / (m + 2) % (m + 2), numbers % (m + 2));
+            let mut line = opened(m, 1);
+            (line[HELD], line[MODULI], line[CELLS], line[CELLS + 1]) = (1, q, coefficient, right);
+            sheets.push(line);
+        }
+    }
+    for numbers in &sheets {
+        for act in [answer(LONGEST_BLOCK), mark(&[]), add_own(2, &[1, 1]), Act::Strike(0)] {
+            expect(&mut Desk::with(numbers), &act, 0, &mut tally);
+        }
+    }
+    let read = sheets.iter().filter(|numbers| faults(numbers).is_empty()).count();
+    // m has the divisors q from 2 on, and each has q times q lines
+    let lines: u32 = (2..=12u32).map(|m| (2..=m).filter(|q| m % q == 0).map(|q| q * q).sum::<u32>()).sum();
+    assert_eq!(read, lines as usize);
 }
 
 #[test]

@@ -30,7 +30,7 @@ pub fn solved(system: &System) -> Option<Answer> {
 pub fn describes(m: u32, vectors: &[Vec<u32>], v: &[u32]) -> bool {
     let (start, steps) = (&vectors[0], &vectors[1..]);
     let entry = |j: usize| steps.iter().map(|step| step[j] as i64).chain([v[j] as i64 - start[j] as i64]).collect();
-    let ways = System { m, n: steps.len(), equations: (0..v.len()).map(entry).collect() };
+    let ways = System::plain(m, steps.len(), (0..v.len()).map(entry).collect());
     if steps.is_empty() {
         v == start
     } else {

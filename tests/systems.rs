@@ -266,10 +266,10 @@ fn the_block_depends_on_the_solutions_alone() {
         other.equations.reverse();
         other.equations.push(system.equations[0].clone());
         let last = other.equations[0].clone();
-        let sum = last.iter().zip(&system.equations[0]).map(|(&x, &y)| (x + y) % m as i64).collect();
-        other.equations.push(sum);
+        let sum = last.numbers.iter().zip(&system.equations[0].numbers).map(|(&x, &y)| (x + y) % m as i64).collect();
+        other.add(m, sum);
         let unit = random_unit(&mut random, m) as u64;
-        other.equations[0].iter_mut().for_each(|entry| *entry = (*entry as u64 * unit % m as u64) as i64);
+        other.equations[0].numbers.iter_mut().for_each(|entry| *entry = (*entry as u64 * unit % m as u64) as i64);
         match (solve(&system), solve(&other)) {
             (Found::Solutions(one), Found::Solutions(two)) => {
                 assert_eq!(one, two, "{system:?} and {other:?} (seed {})", random.seed)
@@ -284,7 +284,7 @@ fn the_block_depends_on_the_solutions_alone() {
 }
 
 fn system(m: u32, n: usize, equations: &[&[i64]]) -> System {
-    System { m, n, equations: equations.iter().map(|equation| equation.to_vec()).collect() }
+    System::plain(m, n, equations.iter().map(|equation| equation.to_vec()).collect())
 }
 
 /// The call's block for a solvable system, as a start and steps.
@@ -321,13 +321,13 @@ fn an_equation_of_zeros_changes_nothing_and_zeros_with_a_right_side_have_no_solu
         let (m, n, k) = (2 + random.below(60) as u32, 1 + random.below(16) as usize, random.below(15) as usize);
         let before = random_system(&mut random, m, n, k);
         let mut after = before.clone();
-        after.equations.push(vec![0; n + 1]);
+        after.add(m, vec![0; n + 1]);
         match (solve(&before), solve(&after)) {
             (Found::Solutions(one), Found::Solutions(two)) => assert_eq!(one, two, "{before:?} (seed {})", random.seed),
             (Found::Multipliers(_), Found::Multipliers(two)) => assert!(after.refuted_by(&two), "{after:?}: {two:?}"),
             _ => panic!("{before:?} (seed {})", random.seed),
         }
-        after.equations.last_mut().unwrap()[n] = 1 + random.below(m as u64 - 1) as i64;
+        after.equations.last_mut().unwrap().numbers[n] = 1 + random.below(m as u64 - 1) as i64;
         assert!(refuted(&after), "{after:?} (seed {})", random.seed);
     }
 }

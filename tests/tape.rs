@@ -2,7 +2,7 @@
 #![allow(dead_code)]
 
 use crate::ledger::{self, kind, number, word, Call, Ledger, Said, Solved};
-use crate::ledger::{ANSWER, COEFFICIENT, HEAD, MINUS_COEFFICIENT, MODULUS, STRIKE};
+use crate::ledger::{ANSWER, COEFFICIENT, HEAD, MINUS_COEFFICIENT, MODULUS, OWN_MODULUS, STRIKE};
 
 /// The most bytes that a tape may have.
 pub const LONGEST_TAPE: usize = 65_536;
@@ -19,12 +19,14 @@ pub fn words(tape: &[u8]) -> Vec<u32> {
 
 /// "The first word's kind picks the call: 1 takes 2 words, 3 takes n+1, 5 takes 1 + n times its number; all other kinds take one,
 /// as do 3 and 5 when unopened and 5 with a number above 17. If fewer remain, all of them." And "a first word of kind 10 begins an
-/// add of n+1 words as kind 3 does". The call, and how many words it takes.
+/// add of n+1 words as kind 3 does"; one of kind 12 "begins its add, which then takes n+2 words, or one when unopened". The call, and
+/// how many words it takes.
 pub fn first_call(ledger: &Ledger, words: &[u32]) -> (Call, usize) {
     let (kind, number) = (kind(words[0]), number(words[0]));
     let wanted = match (kind, ledger) {
         (MODULUS, _) => 2,
         (COEFFICIENT | MINUS_COEFFICIENT, Ledger::Opened(system)) => system.n + 1,
+        (OWN_MODULUS, Ledger::Opened(system)) => system.n + 2,
         (HEAD, Ledger::Opened(system)) if number <= 17 => 1 + system.n * number as usize,
         _ => 1,
     };
@@ -32,7 +34,7 @@ pub fn first_call(ledger: &Ledger, words: &[u32]) -> (Call, usize) {
     let own = words[..used].to_vec();
     let call = match kind {
         MODULUS => Call::Open(own),
-        COEFFICIENT | MINUS_COEFFICIENT => Call::Add(own),
+        COEFFICIENT | MINUS_COEFFICIENT | OWN_MODULUS => Call::Add(own),
         HEAD => Call::Mark(own),
         STRIKE => Call::Strike(number),
         ANSWER => Call::AnswerFromTape(words[0]),
@@ -144,16 +146,19 @@ pub const PAPER_TAPE: [u32; 20] = [
 ];
 pub const PAPER_LINES: &str = "open 2 2\nadded 1\nfrom 0 1\nstep 1 1\nadded 2\nnone 1 1\nstruck 1\nfail\npass\nrefused 1\n";
 
+/// The kinds with which no call begins.
+pub const MEANINGLESS: [u32; 9] = [0, 2, 4, 6, 7, 11, 13, 14, 15];
+
 /// Tapes that are easily misread, with their lines.
 pub fn readings() -> Vec<(Vec<u32>, String)> {
     let opened = |words: &[u32]| [&ledger::opening(3, 2), words].concat();
-    let meaningless: Vec<u32> = [0, 2, 4, 6, 7, 11, 12, 13, 14, 15].iter().map(|&kind| word(kind, 5)).collect();
+    let meaningless: Vec<u32> = MEANINGLESS.iter().map(|&kind| word(kind, 5)).collect();
     vec![
         // whatever its number, a word of a call on an unopened sheet says 4
         (vec![0x3000_0001, 0x5000_0001, 0x8000_0001, 0x9000_0001, 0x8000_0000, 0x9000_0000], "refused 4\n".repeat(6)),
         // words without meaning, and a minus right side, say 1, opened or not
-        (meaningless.clone(), "refused 1\n".repeat(10)),
-        (opened(&meaningless), "open 3 2\n".to_string() + &"refused 1\n".repeat(10)),
+        (meaningless.clone(), "refused 1\n".repeat(9)),
+        (opened(&meaningless), "open 3 2\n".to_string() + &"refused 1\n".repeat(9)),
         // a call's length does not look at the kinds of the later words
         (opened(&[0x3000_0001, 0x9000_0000, 0x4000_0000]), "open 3 2\nrefused 1\n".to_string()),
         // a call that is cut off is one call
@@ -236,4 +241,107 @@ pub const SIGNED: [(u32, [u32; 2], &str); 17] = [
 pub fn signed_tape(m: u32, equation: [u32; 2], answer: &str) -> (Vec<u32>, String) {
     let words = [&ledger::opening(m, 1)[..], &equation, &[word(ANSWER, 0)]].concat();
     (words, format!("open {m} 1\nadded 1\n{answer}"))
+}
+
+/// Tapes with words of kind 12, on a sheet mod 12, with their lines.
+pub fn own_readings() -> Vec<(Vec<u32>, String)> {
+    let opened = |words: &[u32]| [&ledger::opening(12, 2), words].concat();
+    let after = |words: &[u32], lines: &str| (opened(words), format!("open 12 2\n{lines}"));
+    let full = [ledger::opening(12, 2), ledger::own_equation(3, &[0, 0, 0]).repeat(16)].concat();
+    let filled = "open 12 2\n".to_string() + &(1..=16).map(|held| format!("added {held}\n")).collect::<String>();
+    let overfull = |words: &[u32], line: &str| ([&full[..], words].concat(), format!("{filled}{line}"));
+    vec![
+        // one word where the sheet is not opened, whatever its number: what stands behind it are words of their own
+        (vec![0xC000_0003], "refused 4\n".to_string()),
+        (vec![0xC000_0000, 0xCFFF_FFFF, 0xC000_0003], "refused 4\n".repeat(3)),
+        (vec![0xC000_0003, 0x3000_0001, 0x4000_0002], "refused 4\nrefused 4\nrefused 1\n".to_string()),
+        (
+            [vec![0xC000_0003], opened(&[0x9000_0000])].concat(),
+            "refused 4\nopen 12 2\nfrom 0 0\nstep 1 0\nstep 0 1\n".to_string(),
+        ),
+        // one call of four words, whatever kinds the later ones have
+        after(&[0xC000_0003, 0x3000_0001, 0xA000_0001, 0xB000_0001], "added 1\n"),
+        after(&[0xC000_0003, 0x3000_0001, 0x4000_0001, 0x9000_0000, 0x8000_0000], "refused 1\nrefused 7\n"),
+        after(&[0xC000_0003, 0x9000_0000, 0x9000_0000, 0x9000_0000, 0x8000_0000], "refused 1\nrefused 7\n"),
+        after(&[0xC000_0003, 0x1000_0007, 0x2000_0001, 0x4000_0001, 0x8000_0000], "refused 1\nrefused 7\n"),
+        // all that remain, if they are fewer; also where the modulus is none
+        after(&[0xC000_0003], "refused 1\n"),
+        after(&[0xC000_0000], "refused 1\n"),
+        after(&[0xC000_0003, 0x3000_0001], "refused 1\n"),
+        after(&[0xC000_0005, 0x3000_0001, 0x3000_0001], "refused 1\n"),
+        // twice, or not in front; or where the unknowns of an opening should stand
+        after(&[0xC000_0003, 0xC000_0003, 0x3000_0001, 0x3000_0001, 0x4000_0001], "refused 1\nrefused 1\n"),
+        after(&[0xC000_0003, 0xC000_0003, 0x3000_0001, 0x4000_0001], "refused 1\n"),
+        after(&[0x3000_0001, 0xC000_0003, 0x3000_0001, 0x4000_0001], "refused 1\nrefused 1\n"),
+        after(&[0x3000_0001, 0x3000_0001, 0xC000_0003, 0x8000_0000], "refused 1\nrefused 7\n"),
+        after(&[0xC000_0003, 0x3000_0001, 0x3000_0001, 0xC000_0003], "refused 1\n"),
+        (vec![0x1000_000C, 0xC000_0002, 0x9000_0000], "refused 1\nrefused 4\n".to_string()),
+        // the modulus is below 2, or does not divide 12
+        after(&[0xC000_0000, 0x3000_0001, 0x3000_0001, 0x4000_0001, 0x8000_0000], "refused 15\nrefused 7\n"),
+        after(&[0xC000_0001, 0x3000_0001, 0xA000_0001, 0x4000_0001], "refused 15\n"),
+        after(&[0xC000_0005, 0xA000_0001, 0x3000_0001, 0xB000_0001], "refused 15\n"),
+        after(&[0xC000_0018, 0x3000_0001, 0x3000_0001, 0x4000_0001], "refused 15\n"),
+        after(&[0xCFFF_FFFF, 0x3000_0001, 0x3000_0001, 0x4000_0001], "refused 15\n"),
+        // a full sheet asks for the shape first, then for the modulus
+        overfull(&[0xC000_0003, 0x3000_0001, 0x3000_0001, 0x4000_0001], "refused 5\n"),
+        overfull(&[0xC000_0005, 0x3000_0001, 0x3000_0001, 0x4000_0001], "refused 15\n"),
+        overfull(&[0xC000_0005, 0x3000_0001, 0x3000_0001, 0x3000_0001], "refused 1\n"),
+        overfull(&[0xC000_0005, 0x3000_0001, 0x3000_0001], "refused 1\n"),
+        // mod 3 x - y = 1, then mod 4 x + 4y = 6, then mod 12 -x + y = -1; and all struck again but the first
+        after(
+            &[
+                0xC000_0003,
+                0x3000_0001,
+                0xA000_0001,
+                0x4000_0001,
+                0x9000_0000,
+                0xC000_0004,
+                0x3000_0001,
+                0x3000_0004,
+                0x4000_0006,
+                0x9000_0000,
+                0xC000_000C,
+                0xA000_0001,
+                0x3000_0001,
+                0xB000_0001,
+                0x9000_0000,
+                0x8000_0000,
+                0x8000_0000,
+                0x9000_0000,
+            ],
+            "added 1\nfrom 0 2\nstep 1 1\nstep 0 3\nadded 2\nfrom 2 1\nstep 4 1\nstep 0 3\n\
+             added 3\nfrom 2 1\nstep 4 4\nstruck 2\nstruck 1\nfrom 0 2\nstep 1 1\nstep 0 3\n",
+        ),
+    ]
+}
+
+/// Equations in one unknown on a sheet mod m, each with its own modulus, by their words, and the lines of their answer. No
+/// multipliers are among them.
+pub const OWN: [(u32, &[[u32; 3]], &str); 15] = [
+    (12, &[[0xC000_0003, 0x3000_0001, 0x4000_0002]], "from 2\nstep 3\n"),
+    (12, &[[0xC000_0003, 0x3000_0001, 0x4000_0002], [0xC000_0004, 0x3000_0001, 0x4000_0003]], "from 11\n"),
+    (12, &[[0xC000_0004, 0x3000_0001, 0x4000_0003], [0xC000_0003, 0x3000_0001, 0x4000_0002]], "from 11\n"),
+    // minus 1 mod 3 is 2, not 11; and 11 mod 3 is 2, too
+    (12, &[[0xC000_0003, 0x3000_0001, 0xB000_0001]], "from 2\nstep 3\n"),
+    (12, &[[0xC000_0003, 0xA000_0001, 0x4000_0001]], "from 2\nstep 3\n"),
+    (12, &[[0xC000_0003, 0x3000_000B, 0x4000_0001]], "from 2\nstep 3\n"),
+    // 4 mod 4 is 0, though it is not mod 12
+    (12, &[[0xC000_0004, 0x3000_0004, 0x4000_0008]], "from 0\nstep 1\n"),
+    (12, &[[0xC000_0006, 0x3000_0002, 0x4000_0004]], "from 2\nstep 3\n"),
+    (12, &[[0xC000_0006, 0x3000_0003, 0x4000_0003], [0xC000_0003, 0x3000_0002, 0x4000_0002]], "from 1\nstep 6\n"),
+    // the plain line
+    (12, &[[0xC000_000C, 0x3000_0004, 0x4000_0008]], "from 2\nstep 3\n"),
+    (12, &[[0xC000_000C, 0x3000_0001, 0xB000_0001]], "from 11\n"),
+    (2, &[[0xC000_0002, 0x3000_0001, 0xB000_0001]], "from 1\n"),
+    (65_535, &[[0xC000_00FF, 0x3000_0001, 0xB000_0001]], "from 254\nstep 255\n"),
+    // the largest number is 2^28 - 1; mod 257, 2^8 is -1, and mod 32,767, 2^15 is 1
+    (65_535, &[[0xC000_0101, 0x3000_0001, 0x4FFF_FFFF]], "from 240\nstep 257\n"),
+    (65_534, &[[0xC000_7FFF, 0x3000_0001, 0x4FFF_FFFF]], "from 8191\nstep 32767\n"),
+];
+
+/// Such a tape and all its lines.
+pub fn own_tape(m: u32, equations: &[[u32; 3]], answer: &str) -> (Vec<u32>, String) {
+    let words = [&ledger::opening(m, 1)[..], &equations.concat(), &[word(ANSWER, 0)]].concat();
+    let added: String = (1..=equations.len()).map(|held| format!("added {held}\n")).collect();
+    (words, format!("open {m} 1\n{added}{answer}"))
 }

@@ -11,7 +11,7 @@ mod tape;
 use exercises::{chance, pick};
 use ledger::{Call, Ledger, Said};
 use random::Random;
-use reference::System;
+use reference::{Line, System};
 use std::collections::{BTreeMap, BTreeSet};
 use tape::{LONGEST_TAPE, PAPER_LINES, PAPER_TAPE, SIGNED};
 
@@ -87,7 +87,7 @@ fn exercise(random: &mut Random, calls: usize) -> Vec<u32> {
     let mut tape = if chance(random, 8) { vec![] } else { ledger::opening(m, n) };
     advance(&mut sheet, &tape);
     for _ in 0..calls {
-        let unopened = System { m: 7, n: 2, equations: vec![] };
+        let unopened = System::empty(7, 2);
         let system = if let Ledger::Opened(system) = &sheet { system } else { &unopened };
         let words = match random.below(if filling { 40 } else { 20 }) {
             0 => exercises::opening(random),
@@ -117,7 +117,7 @@ fn boundary_word(random: &mut Random) -> u32 {
 /// "Questions, in order, and the number when the answer is no": every refusal that each call on tape can give.
 const REFUSALS: [(&str, &[u32]); 7] = [
     ("open", &[1, 2, 3]),
-    ("add", &[4, 1, 5]),
+    ("add", &[4, 1, 15, 5]),
     ("strike", &[4, 1, 7]),
     ("answer from tape", &[4, 1]),
     ("mark", &[4, 1, 6]),
@@ -137,11 +137,12 @@ fn the_tape_of_the_paper_prints_its_ten_lines() {
 #[test]
 fn exercises_print_their_lines_and_every_call_meets_its_refusals() {
     let mut random = Random::new();
-    let (mut tally, mut seen, mut signs) = (Tally::new(), BTreeMap::new(), 0);
+    let (mut tally, mut seen, mut signs, mut own) = (Tally::new(), BTreeMap::new(), 0, 0);
     for round in 0..4_000 {
         let calls = 1 + random.below(40) as usize;
         let words = exercise(&mut random, calls);
         signs += words.iter().filter(|&&word| ledger::whole(word) < 0).count();
+        own += words.iter().filter(|&&word| ledger::kind(word) == ledger::OWN_MODULUS).count();
         let mut tape = tape::bytes(&words);
         if chance(&mut random, 3) {
             tape.truncate(random.below(tape.len() as u64 + 1) as usize);
@@ -155,7 +156,7 @@ fn exercises_print_their_lines_and_every_call_meets_its_refusals() {
         }
     }
     assert!(seen.len() == 9 && seen.values().all(|&times| times > 1_000), "{seen:?}");
-    assert!(signs > 10_000, "{signs} minus signs");
+    assert!(signs > 10_000 && own > 10_000, "{signs} minus signs, {own} equations with a modulus of their own");
     let all: Tally = REFUSALS.iter().flat_map(|(name, numbers)| numbers.iter().map(|&number| (*name, number))).collect();
     assert_eq!(tally, all, "refusals seen, and refusals to be seen");
 }
@@ -170,7 +171,7 @@ fn tapes_of_boundary_values_print_their_lines() {
             ledger::opening(pick(&mut random, &[2, 3, 17, 65_535]), pick(&mut random, &[1, 2, 15, 16]))
         };
         for _ in 0..random.below(12) {
-            match random.below(6) {
+            match random.below(7) {
                 0 => words.push(boundary_word(&mut random)),
                 1 => words.push(ledger::word(ledger::HEAD, random.below(19) as u32)),
                 2 => words.extend(vec![ledger::word(ledger::ENTRY, boundary(&mut random)); random.below(40) as usize]),
@@ -185,6 +186,7 @@ fn tapes_of_boundary_values_print_their_lines() {
                     let kind = pick(&mut random, &[ledger::RIGHT, ledger::MINUS_RIGHT]);
                     words.push(ledger::word(kind, boundary(&mut random)));
                 }
+                5 => words.push(ledger::word(ledger::OWN_MODULUS, boundary(&mut random))),
                 _ => words.push(ledger::word(pick(&mut random, &[ledger::STRIKE, ledger::ANSWER]), boundary(&mut random))),
             }
         }
@@ -213,7 +215,7 @@ fn random_words_and_random_bytes_print_their_lines() {
 
 #[test]
 fn a_tape_is_cut_into_calls_as_the_paper_says() {
-    for (words, lines) in tape::readings().into_iter().chain(tape::signed_readings()) {
+    for (words, lines) in tape::readings().into_iter().chain(tape::signed_readings()).chain(tape::own_readings()) {
         assert_eq!(expect(&tape::bytes(&words), 0, &mut Tally::new()), lines, "{words:x?}");
     }
 }
@@ -245,13 +247,14 @@ fn in_two_writings(random: &mut Random) -> [Vec<u32>; 2] {
     let (m, n) = if chance(random, 3) { (pick(random, &[2, 12, 32_768, 65_535]), pick(random, &[1, 8, 16])) } else { (m, n) };
     let mut words = [ledger::opening(m, n), ledger::opening(m, n)];
     for _ in 0..1 + random.below(12) {
+        let q = if chance(random, 2) { exercises::divisor(random, m) } else { m };
         let numbers: Vec<i64> = (0..=n).map(|_| if chance(random, 3) { 0 } else { exercises::any_whole(random, m) }).collect();
-        let residues: Vec<i64> = numbers.iter().map(|&x| reference::residue(m, x) as i64).collect();
+        let line = Line { q, numbers };
         let vectors = exercises::any_claim(random, m, n as usize);
         let strikes = vec![ledger::word(ledger::STRIKE, 0); chance(random, 4) as usize];
         let behind = [vec![ledger::word(ledger::ANSWER, 0)], ledger::claim(&vectors), strikes].concat();
-        words[0].extend([ledger::equation(&numbers), behind.clone()].concat());
-        words[1].extend([ledger::equation(&residues), behind].concat());
+        words[0].extend([ledger::line_words(m, &line), behind.clone()].concat());
+        words[1].extend([ledger::line_words(m, &line.reduced()), behind].concat());
     }
     words
 }
@@ -343,11 +346,12 @@ fn an_answer_that_was_printed_passes_as_a_claim_on_the_same_tape() {
         let mut words = ledger::opening(m, n);
         let solution: Vec<u64> = (0..n).map(|_| random.below(m as u64)).collect();
         for _ in 0..random.below(17) {
-            let mut numbers: Vec<i64> = (0..n).map(|_| exercises::any_whole(&mut random, m)).collect();
+            let q = if chance(&mut random, 2) { exercises::divisor(&mut random, m) } else { m };
+            let mut numbers: Vec<i64> = (0..n).map(|_| exercises::any_whole(&mut random, q)).collect();
             let right: i64 = numbers.iter().zip(&solution).map(|(&a, &x)| a * x as i64).sum();
-            let right = if round % 4 == 0 { random.below(m as u64) as u32 } else { reference::residue(m, right) };
-            numbers.push(exercises::written(&mut random, m, right));
-            words.extend(ledger::equation(&numbers));
+            let right = if round % 4 == 0 { random.below(q as u64) as u32 } else { reference::residue(q, right) };
+            numbers.push(exercises::written(&mut random, q, right));
+            words.extend(ledger::line_words(m, &Line { q, numbers }));
         }
         words.push(ledger::word(ledger::ANSWER, 0));
         let lines = expect(&tape::bytes(&words), random.seed, &mut Tally::new());

@@ -48,7 +48,7 @@ impl Opened {
         let reply = found.unwrap_or_else(|why| panic!("{}: {why} (seed {seed})", text.escape_ascii()));
         if let (Outcome::Holds(_), Ledger::Opened(system)) = (reply.outcome, ledger) {
             let mut other = Desk::with(&self.numbers);
-            let added = other.act(&add(system.equations.last().unwrap()));
+            let added = other.act(&add(&system.equations.last().unwrap().numbers));
             assert_eq!(added, Ok(reply.clone()), "{} (seed {seed})", text.escape_ascii());
             assert_eq!(desk.numbers(), other.numbers(), "{} (seed {seed})", text.escape_ascii());
         }

@@ -15,7 +15,7 @@ use Rattle.questions.proofs.Ladder.{thenAsks, Asked, nothing-asked, then-asked}
 use Rattle.words.specs.declared.unpacking.Word.{Word}
 use Rattle.words.specs.Words.{wordOf}
 use Rattle.grammar.specs.Texts.{isTyped, isWithin, isLinear}
-use Rattle.ledger.specs.Ledger.{Ledger, isOpened, unknownsOf, equationsIn, mostEquations}
+use Rattle.ledger.specs.Ledger.{Ledger, isOpened, unknownsOf, linesIn, mostEquations}
 use Rattle.ledger.specs.Calls.{types, enters}
 use Rattle.ledger.specs.Questions.{plain, refusalOf}
 use Rattle.asking.specs.declared.Seen.{Seen}
@@ -31,15 +31,15 @@ module _ {qs : List Question} {before : ℕ} (asked : Asked qs before) {r : ℕ}
   plain-asked w unpacked is = then-asked asked 1 tt (plain w) (λ yes. ap (λ (u : Word). eqb (u .number) 0) unpacked) is
 
   pub held-asked : {l : Ledger} {seen : Seen} → Sees l seen → r ≡ thenAsks before 7 (ltb 0 (seen .held))
-      → Asked (qs ++ (asks 7 (ltb 0 (length (equationsIn l))) ∷ [])) r
+      → Asked (qs ++ (asks 7 (ltb 0 (length (linesIn l))) ∷ [])) r
   held-asked {l} sees is =
-      then-asked asked 7 tt (ltb 0 (length (equationsIn l))) (λ yes. ap (λ (k : ℕ). ltb 0 k) (sees .held)) is
+      then-asked asked 7 tt (ltb 0 (length (linesIn l))) (λ yes. ap (λ (k : ℕ). ltb 0 k) (sees .held)) is
 
 pub room-asked : (l : Ledger) {seen : Seen} → Sees l seen → seen .opened ≡ true → {qs : List Question} {before r : ℕ}
     → Asked qs before → r ≡ thenAsks before 5 (ltb (seen .held) mostEquations)
-    → r ≡ firstNo (asks 4 (isOpened l) ∷ (qs ++ (asks 5 (ltb (length (equationsIn l)) mostEquations) ∷ [])))
+    → r ≡ firstNo (asks 4 (isOpened l) ∷ (qs ++ (asks 5 (ltb (length (linesIn l)) mostEquations) ∷ [])))
 room-asked l sees opened asked is =
-    then-asked asked 5 tt (ltb (length (equationsIn l)) mostEquations) (λ yes. ap (λ (k : ℕ). ltb k mostEquations) (sees .held)) is .is
+    then-asked asked 5 tt (ltb (length (linesIn l)) mostEquations) (λ yes. ap (λ (k : ℕ). ltb k mostEquations) (sees .held)) is .is
     ∙ rw (sym (sees .opened) ∙ opened)
 
 -- the questions that are asked of the text, for n unknowns

@@ -1,7 +1,9 @@
 // The questions that the calls on a sheet ask, in the paper's order: the number of the first whose answer is no, or 0 where the call is
 // accepted. They see four numbers of a sheet, and not its record.
+pub mod adding;
 pub mod classes;
 pub mod entries;
+mod own;
 pub mod queries;
 mod shapes;
 

@@ -16,6 +16,7 @@ pub mod Steps
 pub mod Answer
 pub mod Carried
 pub mod Multipliers
+pub mod LineMultipliers
 pub mod Linear
 pub mod Combination
 pub mod Heads

@@ -2,10 +2,11 @@
 --   fails-first    where not every one passes, it is the first that does not
 --   fails-number   it is known from what stands before
 --   fails-none     it is 0 where every one passes, and nowhere else
+--   first-gives    what is asked of the first that does not pass is asked of the one that is named
 use mathlib.Core.Path.{_≡_, refl, ap, _∙_}
 use mathlib.Core.Logic.{_⊎_, inl, inr}
 use mathlib.Core.List.{List, [], _∷_, _++_}
-use mathlib.Core.Bool.{Bool, true, false}
+use mathlib.Core.Bool.{Bool, true, false, cond}
 use Prim.Native.Nat.{ℕ, suc, _+_}
 use native.Mathlib.Omega.{arith}
 use lib.ListN.{length}
@@ -83,3 +84,16 @@ module _ {A : Type 0} (p : A → Bool) where
         pass = s .pass;
         fails = s .fails;
       }
+
+module _ {A : Type 0} (p : A → Bool) (asked : A → ℕ) (found : List A → ℕ)
+    (next : (x : A) (xs : List A) → found (x ∷ xs) ≡ cond (p x) (found xs) (asked x)) where
+  found-of : (before : List A) (one : A) (after : List A) → T (every p before) → (T (p one) → ⊥)
+      → found (before ++ (one ∷ after)) ≡ asked one
+  found-of [] one after pass fails = next one after ∙ rw (false-of (p one) fails)
+  found-of (x ∷ before) one after pass fails =
+      let both = and-yes (p x) (every p before) pass in
+      next x (before ++ (one ∷ after)) ∙ rw (true-of (p x) (both .0)) (found-of before one after (both .1) fails)
+
+  pub first-gives : (xs : List A) {i : ℕ} (named : FirstFails p xs i) → found xs ≡ asked (named .one)
+  first-gives xs named =
+      ap found (named .list) ∙ found-of (named .before) (named .one) (named .after) (named .pass) (named .fails)

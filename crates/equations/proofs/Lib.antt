@@ -27,3 +27,8 @@ pub mod Places
 pub mod Multipliers
 pub mod Special
 pub mod Promises
+pub mod Sets
+pub mod Scaled
+pub mod LineAnswer
+pub mod LineReasons
+pub mod LinePromises

@@ -3,17 +3,16 @@
 --   broken-none, broken-first     the equation that is named is the first that v does not solve
 --   changed-first                 the step that is named is the first that changes a left side, and so is the equation for it
 use mathlib.Core.Path.{_≡_, refl, sym, ap, _∙_, subst}
-use mathlib.Core.List.{List, [], _∷_, _++_}
+use mathlib.Core.List.{List, [], _∷_}
 use mathlib.Core.Bool.{true, false, _&&_}
 use Prim.Native.Nat.{ℕ}
 use lib.Dec.{T, eqb}
-use mir.Facts.{and-yes}
 use Rattle.equations.specs.Lists.{every}
 use Rattle.equations.specs.Equation.{Equation, solvesOne, solves, homogeneous}
 use Rattle.equations.specs.Reasons.{brokenAt, keeps, changedStep, changedLine, hasSolution, FirstFails, Solution}
-use Rattle.equations.proofs.Truth.{true-of, false-of, of-true, of-false}
+use Rattle.equations.proofs.Truth.{of-true, of-false}
 use Rattle.equations.proofs.Lists.{someone-vector, someone-of}
-use Rattle.equations.proofs.Fails.{fails-first, fails-none}
+use Rattle.equations.proofs.Fails.{fails-first, fails-none, first-gives}
 
 -- ---- a solution, or none
 
@@ -40,27 +39,19 @@ pub broken-first : (m : ℕ) (es : List Equation) (v : List ℕ) → (T (solves 
     → FirstFails (λ e. solvesOne m e v) es (brokenAt m es v)
 broken-first m es v f = fails-first (λ e. solvesOne m e v) es (λ t. f (subst T (solves-every m es v) t))
 
-module _ (m : ℕ) (es : List Equation) where
-  changed-line : (before : List (List ℕ)) (one : List ℕ) (after : List (List ℕ)) → T (every (keeps m es) before)
-      → (T (keeps m es one) → ⊥)
-      → changedLine m es (before ++ (one ∷ after)) ≡ brokenAt m (homogeneous es) one
-  changed-line [] one after pass fails = rw (false-of (keeps m es one) fails)
-  changed-line (s ∷ before) one after pass fails =
-      let both = and-yes (keeps m es s) (every (keeps m es) before) pass in
-      rw (true-of (keeps m es s) (both .0)) (changed-line before one after (both .1) fails)
+-- the equation that is named is that of the first step that changes a left side
+changed-line : (m : ℕ) (es : List Equation) (ss : List (List ℕ)) {i : ℕ} (step : FirstFails (keeps m es) ss i)
+    → changedLine m es ss ≡ brokenAt m (homogeneous es) (step .one)
+changed-line m es = first-gives (keeps m es) (brokenAt m (homogeneous es)) (changedLine m es) (λ s ss. refl)
 
-  pub changed-first : (ss : List (List ℕ)) → (T (every (keeps m es) ss) → ⊥)
-      → (step : FirstFails (keeps m es) ss (changedStep m es ss))
-      × FirstFails (λ e. solvesOne m e (step .one)) (homogeneous es) (changedLine m es ss)
-  changed-first ss f = (step, subst (FirstFails (λ e. solvesOne m e (step .one)) (homogeneous es)) same at-step)
-    where
-      step : FirstFails (keeps m es) ss (changedStep m es ss)
-      step = fails-first (keeps m es) ss f
+pub changed-first : (m : ℕ) (es : List Equation) (ss : List (List ℕ)) → (T (every (keeps m es) ss) → ⊥)
+    → (step : FirstFails (keeps m es) ss (changedStep m es ss))
+    × FirstFails (λ e. solvesOne m e (step .one)) (homogeneous es) (changedLine m es ss)
+changed-first m es ss f =
+    (step, subst (FirstFails (λ e. solvesOne m e (step .one)) (homogeneous es)) (sym (changed-line m es ss step)) at-step)
+  where
+    step : FirstFails (keeps m es) ss (changedStep m es ss)
+    step = fails-first (keeps m es) ss f
 
-      at-step : FirstFails (λ e. solvesOne m e (step .one)) (homogeneous es) (brokenAt m (homogeneous es) (step .one))
-      at-step = broken-first m (homogeneous es) (step .one) (step .fails)
-
-      same : brokenAt m (homogeneous es) (step .one) ≡ changedLine m es ss
-      same =
-          sym (ap (changedLine m es) (step .list)
-          ∙ changed-line (step .before) (step .one) (step .after) (step .pass) (step .fails))
+    at-step : FirstFails (λ e. solvesOne m e (step .one)) (homogeneous es) (brokenAt m (homogeneous es) (step .one))
+    at-step = broken-first m (homogeneous es) (step .one) (step .fails)

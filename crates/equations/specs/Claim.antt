@@ -1,6 +1,6 @@
 -- A student's claim, what it describes, and its mark. Definitions only.
 use mathlib.Core.List.{List}
-use mathlib.Core.Bool.{Bool, false, cond, Bool·beq}
+use mathlib.Core.Bool.{Bool, false, Bool·beq}
 use Prim.Native.Nat.{ℕ}
 use lib.ListN.{length}
 use Rattle.equations.specs.declared.Mark.{Mark}
@@ -24,10 +24,6 @@ describes m (from start steps) v =
 -- "Pass if the described vectors are those that solve the ledger's equations, fail otherwise."
 unfoldable pub passes : ℕ → ℕ → List Equation → Claim → Bool
 passes m n es claim = every (λ v. Bool·beq (describes m claim v) (solves m es v)) (vectors m n)
-
--- the same as a mark
-unfoldable pub markOf : ℕ → ℕ → List Equation → Claim → Mark
-markOf m n es claim = cond (passes m n es claim) Pass Fail
 
 -- a mark's number, as a result in C and as a byte: "0 fail, 1 pass"
 abbrev pub markNumber : Mark → ℕ

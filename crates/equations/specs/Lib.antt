@@ -1,5 +1,6 @@
--- What document 01 means by an answer to a list of equations; no method stands here.
--- Read in this order: Lists, Vectors, Equation, Lines, Whole, Answer, Multipliers, Claim, Reasons, Promises.
+-- What documents 01 and 02 mean by an answer to a list of equations; no method stands here.
+-- Read in this order: Lists, Vectors, Equation, Lines, Whole, Answer, Multipliers, Claim, Reasons, Promises; then, for lines with a
+-- modulus of their own, Sets, Line, LineReasons, LinePromises.
 pub mod Lists
 pub mod Vectors
 pub mod Equation
@@ -10,3 +11,7 @@ pub mod Multipliers
 pub mod Claim
 pub mod Reasons
 pub mod Promises
+pub mod Sets
+pub mod Line
+pub mod LineReasons
+pub mod LinePromises

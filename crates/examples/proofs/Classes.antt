@@ -6,7 +6,8 @@ use Prim.Native.Nat.{ℕ}
 use lib.ListN.{replicate}
 use Rattle.slices.specs.Pieces.{pieces}
 use Rattle.questions.specs.Reply.{resultOf, memoryAfter}
-use Rattle.equations.specs.Claim.{describes, passes, markOf}
+use Rattle.equations.specs.Claim.{describes}
+use Rattle.equations.specs.Line.{linePasses, linesMod}
 use Rattle.system.specs.Claims.{claimOf, vectorsOf}
 use Rattle.words.specs.Words.{word, wordsIn, coefficientKind, headKind, entryKind}
 use Rattle.ledger.specs.Ledger.{Ledger, unopened, opened}
@@ -18,7 +19,7 @@ use Rattle.sheet.specs.Calls.{markedOf, classBytes, classedOf, marksAfter}
 use Rattle.examples.proofs.Starred.{equation, block}
 
 abbrev sheet : Ledger
-sheet = opened 4 2 (equation (1 ∷ 2 ∷ []) 0 ∷ [])
+sheet = opened 4 2 (linesMod 4 (equation (1 ∷ 2 ∷ []) 0 ∷ []))
 
 abbrev head : ℕ → ℕ
 head h = word headKind h
@@ -67,14 +68,14 @@ class =
     ∷ (word entryKind 0 ∷ []) ∷ block 1 (0 ∷ []) ∷ [])
 
 pub bytes : classBytes sheet class ≡ 1 ∷ 0 ∷ 0 ∷ 106 ∷ 101 ∷ 101 ∷ 101 ∷ []
-unfolding claimsIn pieces markedOf refusalOf wordsIn claimOf vectorsOf markOf passes describes
+unfolding claimsIn pieces markedOf refusalOf wordsIn claimOf vectorsOf linePasses describes
 bytes = refl
 
 -- "bytes past the last claim keep their content"
 pub bytes-kept :
     (classedOf sheet class (replicate 9 9) ≡ Claims 7)
     × (marksAfter sheet class (replicate 9 9) ≡ 1 ∷ 0 ∷ 0 ∷ 106 ∷ 101 ∷ 101 ∷ 101 ∷ 9 ∷ 9 ∷ [])
-unfolding classedOf marksAfter resultOf memoryAfter claimsIn pieces markedOf refusalOf wordsIn claimOf vectorsOf markOf passes describes
+unfolding classedOf marksAfter resultOf memoryAfter claimsIn pieces markedOf refusalOf wordsIn claimOf vectorsOf linePasses describes
 bytes-kept = (refl, refl)
 
 -- ---- what turns a class away

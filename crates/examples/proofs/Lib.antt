@@ -1,6 +1,7 @@
--- Five tables.
+-- Six tables.
 pub mod Starred
 pub mod Typed
 pub mod Signed
 pub mod Classes
 pub mod Reasons
+pub mod Clocks

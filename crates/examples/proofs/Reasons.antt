@@ -8,10 +8,11 @@ use lib.ListN.{replicate}
 use Rattle.questions.specs.Reply.{resultOf, memoryAfter}
 use Rattle.equations.specs.declared.Reason.the-variants.{Right, Solvable, Unsolvable, Breaks, Changes, Misses}
 use Rattle.equations.specs.Answer.{startOf}
-use Rattle.equations.specs.Claim.{describes, passes}
-use Rattle.equations.specs.Reasons.{hasSolution, reasonOf}
+use Rattle.equations.specs.Claim.{describes}
+use Rattle.equations.specs.Line.{linePasses, linesMod}
+use Rattle.equations.specs.LineReasons.{lineSolvable, lineReason}
 use Rattle.system.specs.Claims.{claimOf, vectorsOf}
-use Rattle.system.specs.Reasons.{shownWith}
+use Rattle.system.specs.Lines.{lineShown}
 use Rattle.words.specs.Words.{word, wordsIn, entryKind}
 use Rattle.ledger.specs.Ledger.{Ledger, unopened, opened}
 use Rattle.ledger.specs.Marking.{claimReason, reasonWords}
@@ -22,7 +23,7 @@ use Rattle.sheet.specs.Calls.{reasonedOf, shownAfter}
 use Rattle.examples.proofs.Starred.{equation, block}
 
 abbrev sheet : Ledger
-sheet = opened 4 2 (equation (1 ∷ 2 ∷ []) 0 ∷ [])
+sheet = opened 4 2 (linesMod 4 (equation (1 ∷ 2 ∷ []) 0 ∷ []))
 
 -- ---- which reason
 
@@ -32,37 +33,37 @@ pub one-of-each :
     × (claimReason sheet (block 2 (0 ∷ 0 ∷ 1 ∷ 0 ∷ [])) ≡ Changes 1 1)
     × (claimReason sheet (block 2 (0 ∷ 0 ∷ 0 ∷ 2 ∷ [])) ≡ Misses)
     × (claimReason sheet (block 2 (0 ∷ 0 ∷ 2 ∷ 3 ∷ [])) ≡ Right)
-unfolding wordsIn claimOf vectorsOf reasonOf hasSolution passes describes
+unfolding wordsIn claimOf vectorsOf lineReason lineSolvable linePasses describes
 one-of-each = (refl, refl, refl, refl, refl)
 
 -- "the first such": of three equations the second and the third are broken
 pub second-equation-broken :
-    claimReason (opened 4 2 (equation (0 ∷ 2 ∷ []) 0 ∷ equation (1 ∷ 0 ∷ []) 1 ∷ equation (2 ∷ 0 ∷ []) 2 ∷ [])) (block 1 (0 ∷ 0 ∷ []))
+    claimReason (opened 4 2 (linesMod 4 (equation (0 ∷ 2 ∷ []) 0 ∷ equation (1 ∷ 0 ∷ []) 1 ∷ equation (2 ∷ 0 ∷ []) 2 ∷ []))) (block 1 (0 ∷ 0 ∷ []))
     ≡ Breaks 2
-unfolding wordsIn claimOf vectorsOf reasonOf hasSolution passes describes
+unfolding wordsIn claimOf vectorsOf lineReason lineSolvable linePasses describes
 second-equation-broken = refl
 
 -- "giving the first step, and for it the first such equation": the second step, and of it the first equation or the second
 pub second-step :
-    (claimReason (opened 4 2 (equation (1 ∷ 2 ∷ []) 0 ∷ equation (2 ∷ 0 ∷ []) 0 ∷ [])) (block 3 (0 ∷ 0 ∷ 2 ∷ 1 ∷ 1 ∷ 0 ∷ [])) ≡ Changes 2 1)
-    × (claimReason (opened 4 2 (equation (2 ∷ 0 ∷ []) 0 ∷ equation (1 ∷ 2 ∷ []) 0 ∷ [])) (block 3 (0 ∷ 0 ∷ 2 ∷ 1 ∷ 2 ∷ 0 ∷ [])) ≡ Changes 2 2)
-unfolding wordsIn claimOf vectorsOf reasonOf hasSolution passes describes
+    (claimReason (opened 4 2 (linesMod 4 (equation (1 ∷ 2 ∷ []) 0 ∷ equation (2 ∷ 0 ∷ []) 0 ∷ []))) (block 3 (0 ∷ 0 ∷ 2 ∷ 1 ∷ 1 ∷ 0 ∷ [])) ≡ Changes 2 1)
+    × (claimReason (opened 4 2 (linesMod 4 (equation (2 ∷ 0 ∷ []) 0 ∷ equation (1 ∷ 2 ∷ []) 0 ∷ []))) (block 3 (0 ∷ 0 ∷ 2 ∷ 1 ∷ 2 ∷ 0 ∷ [])) ≡ Changes 2 2)
+unfolding wordsIn claimOf vectorsOf lineReason lineSolvable linePasses describes
 second-step = (refl, refl)
 
 -- steps outside, equations inside: the first step changes the second equation, though the second step changes the first
 pub steps-before-equations :
-    claimReason (opened 4 2 (equation (2 ∷ 0 ∷ []) 0 ∷ equation (1 ∷ 2 ∷ []) 0 ∷ [])) (block 3 (0 ∷ 0 ∷ 2 ∷ 0 ∷ 1 ∷ 0 ∷ [])) ≡ Changes 1 2
-unfolding wordsIn claimOf vectorsOf reasonOf hasSolution passes describes
+    claimReason (opened 4 2 (linesMod 4 (equation (2 ∷ 0 ∷ []) 0 ∷ equation (1 ∷ 2 ∷ []) 0 ∷ []))) (block 3 (0 ∷ 0 ∷ 2 ∷ 0 ∷ 1 ∷ 0 ∷ [])) ≡ Changes 1 2
+unfolding wordsIn claimOf vectorsOf lineReason lineSolvable linePasses describes
 steps-before-equations = refl
 
 -- 2·x = 1 has no solution: whatever else is claimed gets this reason, before a start is looked at, and who claims none is right
 abbrev none : Ledger
-none = opened 4 2 (equation (2 ∷ 0 ∷ []) 1 ∷ [])
+none = opened 4 2 (linesMod 4 (equation (2 ∷ 0 ∷ []) 1 ∷ []))
 
 pub no-start-looked-at :
     (claimReason none (block 2 (3 ∷ 3 ∷ 1 ∷ 0 ∷ [])) ≡ Unsolvable) × (claimReason none (block 1 (0 ∷ 0 ∷ [])) ≡ Unsolvable)
     × (claimReason none (block 0 []) ≡ Right)
-unfolding wordsIn claimOf vectorsOf reasonOf hasSolution passes describes
+unfolding wordsIn claimOf vectorsOf lineReason lineSolvable linePasses describes
 no-start-looked-at = (refl, refl, refl)
 
 -- ---- what is written
@@ -71,7 +72,7 @@ no-start-looked-at = (refl, refl, refl)
 pub solution-written :
     (reasonedOf sheet (block 0 []) (9 ∷ 9 ∷ 9 ∷ []) ≡ Gives Solvable 2)
     × (shownAfter sheet (block 0 []) (9 ∷ 9 ∷ 9 ∷ []) ≡ word entryKind 0 ∷ word entryKind 0 ∷ 9 ∷ [])
-unfolding reasonedOf shownAfter resultOf memoryAfter reasonWords shownWith startOf wordsIn claimOf vectorsOf reasonOf hasSolution
+unfolding reasonedOf shownAfter resultOf memoryAfter reasonWords lineShown startOf wordsIn claimOf vectorsOf lineReason lineSolvable
 solution-written = (refl, refl)
 
 -- "where the reason has none, or the claim passes, the buffer keeps its content": it may be empty
@@ -80,7 +81,7 @@ pub nothing-written :
     × (reasonedOf sheet (block 2 (0 ∷ 0 ∷ 1 ∷ 0 ∷ [])) [] ≡ Gives (Changes 1 1) 0)
     × (reasonedOf sheet (block 2 (0 ∷ 0 ∷ 2 ∷ 3 ∷ [])) [] ≡ Gives Right 0)
     × (shownAfter sheet (block 2 (0 ∷ 0 ∷ 2 ∷ 3 ∷ [])) (9 ∷ []) ≡ 9 ∷ [])
-unfolding reasonedOf shownAfter resultOf memoryAfter reasonWords shownWith wordsIn claimOf vectorsOf reasonOf hasSolution passes describes
+unfolding reasonedOf shownAfter resultOf memoryAfter reasonWords lineShown wordsIn claimOf vectorsOf lineReason lineSolvable linePasses describes
 nothing-written = (refl, refl, refl, refl)
 
 -- ---- what is turned away
@@ -92,11 +93,11 @@ asked l ws room = refusalOf l (queries (reasons ws (replicate room 0)))
 pub turned-away :
     (asked unopened (block 0 []) 2 ≡ 4) × (asked sheet (block 1 (1 ∷ [])) 2 ≡ 1) × (asked sheet (block 1 (1 ∷ 4 ∷ [])) 0 ≡ 6)
     × (asked sheet (block 0 []) 1 ≡ 8) × (asked sheet (block 0 []) 2 ≡ 0)
-unfolding refusalOf reasonWords shownWith startOf wordsIn claimOf vectorsOf reasonOf hasSolution
+unfolding refusalOf reasonWords lineShown startOf wordsIn claimOf vectorsOf lineReason lineSolvable
 turned-away = (refl, refl, refl, refl, refl)
 
 -- nothing is written then
 pub kept-at-eight :
     (reasonedOf sheet (block 0 []) (9 ∷ []) ≡ Refused 8) × (shownAfter sheet (block 0 []) (9 ∷ []) ≡ 9 ∷ [])
-unfolding reasonedOf shownAfter resultOf memoryAfter reasonWords shownWith startOf wordsIn claimOf vectorsOf reasonOf hasSolution
+unfolding reasonedOf shownAfter resultOf memoryAfter reasonWords lineShown startOf wordsIn claimOf vectorsOf lineReason lineSolvable
 kept-at-eight = (refl, refl)

@@ -20,6 +20,7 @@ use Rattle.residue.proofs.Solutions.{solutions-are, solutions-describe}
 use Rattle.congruence.specs.declared.Solved.the-variants.{Solutions}
 use Rattle.congruence.specs.Congruence.{solvedOf, congruenceOf}
 use Rattle.words.specs.Words.{word, wordsIn, coefficientKind, rightKind, minusCoefficientKind, minusRightKind}
+use Rattle.equations.specs.Line.{linesMod}
 use Rattle.ledger.specs.Ledger.{Ledger, unopened, opened}
 use Rattle.ledger.specs.Calls.{adds, meaningless, enters, queries}
 use Rattle.ledger.specs.Questions.{refusalOf}
@@ -99,7 +100,7 @@ minusRight b = word minusRightKind b
 pub any-mix :
     ledger (opening 12 2 ∷ enters (adds (minus 5 ∷ plus 268435455 ∷ minusRight 30 ∷ []))
     ∷ enters (adds (minus 0 ∷ minus 13 ∷ right 12 ∷ [])) ∷ [])
-    ≡ opened 12 2 (equation (7 ∷ 3 ∷ []) 6 ∷ equation (0 ∷ 11 ∷ []) 0 ∷ [])
+    ≡ opened 12 2 (linesMod 12 (equation (7 ∷ 3 ∷ []) 6 ∷ equation (0 ∷ 11 ∷ []) 0 ∷ []))
 unfolding ledgerFrom enter refusalOf wordsIn residueOf negative
 any-mix = refl
 
@@ -125,7 +126,7 @@ pub only-full : numbers (opened 12 2 []) (rightShape ∷ []) ≡ (0 ∷ [])
 unfolding refusalOf wordsIn
 only-full = refl
 
-pub full-sheet : numbers (opened 12 2 full) (rightShape ∷ []) ≡ (5 ∷ [])
+pub full-sheet : numbers (opened 12 2 (linesMod 12 full)) (rightShape ∷ []) ≡ (5 ∷ [])
 unfolding refusalOf wordsIn
 full-sheet = refl
 
@@ -155,6 +156,6 @@ unfolding firstCall behindFirst refusalOf
 eleven-first l ws = (refl, refl, refl)
 
 -- "The printed example keeps its last line, now for wrong shape."
-pub last-word : numbers (opened 2 2 (equation (1 ∷ 1 ∷ []) 1 ∷ [])) ((minus 0 ∷ []) ∷ []) ≡ (1 ∷ [])
+pub last-word : numbers (opened 2 2 (linesMod 2 (equation (1 ∷ 1 ∷ []) 1 ∷ []))) ((minus 0 ∷ []) ∷ []) ≡ (1 ∷ [])
 unfolding refusalOf wordsIn
 last-word = refl

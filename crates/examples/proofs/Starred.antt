@@ -5,7 +5,7 @@
 use mathlib.Core.Bool.{true, false}
 use mathlib.Core.List.{List, [], _∷_, _++_, flatten}
 use mathlib.Core.Option.{none, some}
-use mathlib.Core.Path.{_≡_, refl, sym}
+use mathlib.Core.Path.{_≡_, refl, sym, _∙_}
 use Prim.Native.Nat.{ℕ, _*_}
 use native.Mathlib.Omega.{arith}
 use lib.Dec.{T}
@@ -24,7 +24,8 @@ use Rattle.equations.specs.Equation.{Equation}
 use Rattle.equations.specs.Answer.{startOf, stepAt, stepsOf}
 use Rattle.equations.specs.Lines.{equationsOf}
 use Rattle.equations.specs.Multipliers.{refutes}
-use Rattle.equations.specs.Claim.{from, describes, passes, markOf}
+use Rattle.equations.specs.Claim.{from, describes, passes}
+use Rattle.equations.specs.Line.{lineStart, lineSteps, linePasses, linesMod}
 use Rattle.equations.specs.Promises.{ZeroEquation, ContradictoryEquation}
 use Rattle.equations.proofs.Truth.{true-of}
 use Rattle.equations.proofs.Vectors.{all-below}
@@ -32,6 +33,8 @@ use Rattle.equations.proofs.Multipliers.{refutes-is}
 use Rattle.equations.proofs.Promises.{zero-equation, contradictory-equation}
 use Rattle.system.specs.Block.{blockOf}
 use Rattle.system.specs.Claims.{claimOf, vectorsOf}
+use Rattle.system.specs.Lines.{lineBlock}
+use Rattle.system.proofs.Lines.{plain-shown}
 use Rattle.system.proofs.Promises.{answered}
 use Rattle.words.specs.Words.{word, wordsIn, wordsOf, modulusKind, unknownsKind, coefficientKind, rightKind, headKind, entryKind, multiplierKind}
 use Rattle.ledger.specs.Ledger.{opened}
@@ -136,18 +139,18 @@ oneTwoIsZeroCalls = opening 4 2 ∷ adding (1 ∷ 2 ∷ []) 0 ∷ []
 
 pub one-two-is-zero-answered : (x : ℕ)
     → buffer oneTwoIsZeroCalls (x ∷ x ∷ x ∷ x ∷ x ∷ x ∷ x ∷ x ∷ []) ≡ block 3 (0 ∷ 0 ∷ 2 ∷ 1 ∷ 0 ∷ 2 ∷ []) ++ (x ∷ [])
-unfolding sheetFrom fresh sheetAfter ledgerOf bufferAfter memoryAfter refusalOf wordsIn residueOf equationsOf answerWords blockOf
-    startOf stepsOf stepAt flatten
+unfolding sheetFrom fresh sheetAfter ledgerOf bufferAfter memoryAfter refusalOf wordsIn residueOf equationsOf answerWords lineBlock
+    lineStart lineSteps flatten
 one-two-is-zero-answered x = refl
 
 pub step-two-three-marked : marked oneTwoIsZeroCalls (block 2 (0 ∷ 0 ∷ 2 ∷ 3 ∷ [])) ≡ Gets Pass
-unfolding sheetFrom fresh sheetAfter ledgerOf markedOf refusalOf wordsIn residueOf equationsOf claimOf vectorsOf markOf
-    passes describes
+unfolding sheetFrom fresh sheetAfter ledgerOf markedOf refusalOf wordsIn residueOf equationsOf claimOf vectorsOf linePasses
+    describes
 step-two-three-marked = refl
 
 pub step-zero-two-marked : marked oneTwoIsZeroCalls (block 2 (0 ∷ 0 ∷ 0 ∷ 2 ∷ [])) ≡ Gets Fail
-unfolding sheetFrom fresh sheetAfter ledgerOf markedOf refusalOf wordsIn residueOf equationsOf claimOf vectorsOf markOf
-    passes describes
+unfolding sheetFrom fresh sheetAfter ledgerOf markedOf refusalOf wordsIn residueOf equationsOf claimOf vectorsOf linePasses
+    describes
 step-zero-two-marked = refl
 
 -- "m=6: 2x=4, 3x=3: from 5, no step."
@@ -181,8 +184,8 @@ abbrev pub struckCalls : List Call
 struckCalls = withZeroCalls ++ (enters (strikes 0) ∷ [])
 
 pub two-and-three-answered : (x y z : ℕ) → buffer twoAndThreeCalls (x ∷ y ∷ z ∷ []) ≡ block 1 (5 ∷ []) ++ (z ∷ [])
-unfolding sheetFrom fresh sheetAfter ledgerOf bufferAfter memoryAfter refusalOf wordsIn residueOf equationsOf answerWords blockOf
-    startOf stepsOf stepAt flatten
+unfolding sheetFrom fresh sheetAfter ledgerOf bufferAfter memoryAfter refusalOf wordsIn residueOf equationsOf answerWords lineBlock
+    lineStart lineSteps flatten
 two-and-three-answered x y z = refl
 
 abbrev withZeroLines : List ℕ
@@ -211,8 +214,12 @@ with-zero-refutes =
     (sym with-zero-block)
     .multipliers refl
 
+-- the lines of the sheet, all mod 6, have that block
+with-zero-lines : lineBlock 6 1 (linesMod 6 withZero) ≡ 0 ∷ withZeroMultipliers
+with-zero-lines = plain-shown 6 1 withZero (omega arith) .0 ∙ with-zero-block
+
 -- a block of four words fits a buffer of four
-with-zero-fits : (x : ℕ) (ks : List ℕ) → length ks ≡ 3 → blockOf 6 1 withZero ≡ 0 ∷ ks
+with-zero-fits : (x : ℕ) (ks : List ℕ) → length ks ≡ 3 → lineBlock 6 1 (linesMod 6 withZero) ≡ 0 ∷ ks
     → buffer withZeroCalls (x ∷ x ∷ x ∷ x ∷ []) ≡ word headKind 0 ∷ wordsOf multiplierKind ks
 unfolding sheetFrom fresh sheetAfter ledgerOf bufferAfter memoryAfter refusalOf wordsIn residueOf equationsOf answerWords
 with-zero-fits x [] l e = absurd (omega arith)
@@ -227,17 +234,17 @@ pub with-zero-answered : (x : ℕ) → (ks : List ℕ) × (refutes 6 1 withZero 
 with-zero-answered x = (
   withZeroMultipliers,
   true-of _ with-zero-refutes,
-  with-zero-fits x withZeroMultipliers (refutes-is 6 1 withZero withZeroMultipliers .0 with-zero-refutes .one-each) with-zero-block,
+  with-zero-fits x withZeroMultipliers (refutes-is 6 1 withZero withZeroMultipliers .0 with-zero-refutes .one-each) with-zero-lines,
 )
 
-pub with-zero-held : ledgerOf (after withZeroCalls) ≡ opened 6 1 withZero
+pub with-zero-held : ledgerOf (after withZeroCalls) ≡ opened 6 1 (linesMod 6 withZero)
 unfolding sheetFrom fresh sheetAfter ledgerOf refusalOf wordsIn residueOf equationsOf
 with-zero-held = refl
 
 -- "Strike: from 5 again."
 pub struck-answered : (x y z : ℕ) → buffer struckCalls (x ∷ y ∷ z ∷ []) ≡ block 1 (5 ∷ []) ++ (z ∷ [])
-unfolding sheetFrom fresh sheetAfter ledgerOf bufferAfter memoryAfter refusalOf wordsIn residueOf equationsOf answerWords blockOf
-    startOf stepsOf stepAt flatten
+unfolding sheetFrom fresh sheetAfter ledgerOf bufferAfter memoryAfter refusalOf wordsIn residueOf equationsOf answerWords lineBlock
+    lineStart lineSteps flatten
 struck-answered x y z = refl
 
 -- "0x=0 changes nothing": for every m, n and list, wherever it stands there

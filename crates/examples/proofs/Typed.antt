@@ -7,6 +7,7 @@ use mathlib.Core.Path.{_≡_, refl}
 use Prim.Native.Nat.{ℕ}
 use Prim.Native.String.{String}
 use Rattle.equations.specs.Equation.{Equation}
+use Rattle.equations.specs.Line.{linesMod}
 use Rattle.words.specs.Words.{wordsIn}
 use Rattle.grammar.specs.Tree.{number, unknown, minus, sum, difference, product}
 use Rattle.grammar.specs.Linear.{equationOf}
@@ -33,7 +34,7 @@ unfolding typedOf sidesOf expressionOf expressionIn
 paper-tree = refl
 
 -- mod 12 with three unknowns it adds 4·x1 + 6·x2 + x3 = 5: through the calls, from a fresh sheet's ledger on
-pub paper-added : ledger (opening 12 3 ∷ enters (types paperText) ∷ []) ≡ opened 12 3 (equation (4 ∷ 6 ∷ 1 ∷ []) 5 ∷ [])
+pub paper-added : ledger (opening 12 3 ∷ enters (types paperText) ∷ []) ≡ opened 12 3 (linesMod 12 (equation (4 ∷ 6 ∷ 1 ∷ []) 5 ∷ []))
 unfolding ledgerFrom enter refusalOf wordsIn typedOf sidesOf expressionOf expressionIn equationOf
 paper-added = refl
 
@@ -125,7 +126,7 @@ outside = refl
 
 abbrev numbers : List Equation → List String → List ℕ
 numbers es [] = []
-numbers es (s ∷ ss) = refusalOf (opened 10 3 es) (enters (types (bytesOf s))) ∷ numbers es ss
+numbers es (s ∷ ss) = refusalOf (opened 10 3 (linesMod 10 es)) (enters (types (bytesOf s))) ∷ numbers es ss
 
 -- "not in the grammar or too long 11; then an unknown beyond n 12; then not linear 13"
 abbrev pub turnedAway : List String

@@ -1,80 +1,99 @@
 -- What an accepted call does to a ledger, by its effect.
 --   Allows, accepted-allows    what the questions let through, whichever call has the effect
+--   residues-long              an equation in words has n + 1 residues
 --   enter-accepted             an accepted call has its effect
---   gains-counts               one equation more,
+--   gains-counts               one line more,
 --   loses-counts               one less
 use mathlib.Core.Path.{_≡_, sym, ap, subst, _∙_}
 use mathlib.Core.Bool.{true}
 use mathlib.Core.List.{List, [], _∷_}
-use Prim.Native.Nat.{ℕ, suc, _+_, _-_, _<_}
+use Prim.Native.Nat.{ℕ, suc, _+_, _-_, _<_, _≤_}
 use native.Mathlib.Omega.{arith}
 use lib.Dec.{T, ltb→lt}
 use lib.ListN.{length, take, drop, length-append, length-drop}
 use lib.Seq.{length-take-le}
-use Rattle.questions.specs.Questions.{allowedModulus}
+use Rattle.questions.specs.Questions.{allowedModulus, allowedOwn}
+use Rattle.questions.proofs.Questions.{own-least, whole-own}
 use Rattle.equations.specs.Vectors.{Below}
 use Rattle.equations.specs.Equation.{Equation}
+use Rattle.equations.specs.Line.{Line}
 use Rattle.equations.proofs.Truth.{true-of}
 use Rattle.equations.proofs.Vectors.{vector-below, below-take, below-at}
+use Rattle.words.specs.declared.unpacking.Word.{Word}
 use Rattle.words.specs.Words.{wordsIn}
 use Rattle.words.specs.Signs.{residuesOf}
 use Rattle.words.proofs.Minus.{residues-count, residues-below}
 use Rattle.grammar.specs.Texts.{typedOf, equationIn}
 use Rattle.grammar.proofs.Texts.{passed}
 use Rattle.grammar.proofs.Solutions.{made-length, equation-shaped}
-use Rattle.ledger.specs.Ledger.{Ledger, unopened, opened, isOpened, modulusOf, unknownsOf, equationsIn, mostEquations}
-use Rattle.ledger.specs.Shapes.{isEquation}
+use Rattle.ledger.specs.Ledger.{Ledger, unopened, opened, isOpened, modulusOf, unknownsOf, linesIn, mostEquations}
+use Rattle.ledger.specs.Shapes.{isEquation, ownModulus, equationWords}
 use Rattle.ledger.specs.Calls.{Entry, opens, adds, types, strikes, enters}
 use Rattle.ledger.specs.Questions.{allowedUnknowns, refusalOf}
 use Rattle.ledger.specs.History.{Effect, begins, gains, loses, effectOf, changed, without, enter}
-use Rattle.ledger.proofs.Shapes.{equation-length}
+use Rattle.ledger.proofs.Shapes.{equation-length, behindOwn, equation-memory}
 use Rattle.ledger.proofs.Questions.{accepted-yes}
 
-pub record Gains (l : Ledger) (e : Equation) : Type 0 where
+pub record Gains (l : Ledger) (line : Line) : Type 0 where
   pub opened : T (isOpened l)
-  pub under : length (equationsIn l) < mostEquations
-  pub shaped : length (e .coefficients) ≡ unknownsOf l
-  -- its numbers are residues; mod 0 there are none
-  pub coefficients : 0 < modulusOf l → Below (modulusOf l) (e .coefficients)
-  pub right : 0 < modulusOf l → e .right < modulusOf l
+  pub under : length (linesIn l) < mostEquations
+  pub shaped : length (line .equation .coefficients) ≡ unknownsOf l
+  -- its modulus is one of a line, and its numbers are residues; mod 0 and 1 there are none
+  pub own : 2 ≤ modulusOf l → T (allowedOwn (modulusOf l) (line .modulus))
+  pub coefficients : 2 ≤ modulusOf l → Below (line .modulus) (line .equation .coefficients)
+  pub right : 2 ≤ modulusOf l → line .equation .right < line .modulus
 
 abbrev pub Allows : Ledger → Effect → Type 0
 Allows l (begins m n) = T (allowedModulus m) × T (allowedUnknowns n)
-Allows l (gains e) = Gains l e
-Allows l (loses j) = T (isOpened l) × (j < length (equationsIn l))
+Allows l (gains line) = Gains l line
+Allows l (loses j) = T (isOpened l) × (j < length (linesIn l))
+
+-- the residues of a well-formed equation's words: n coefficients and a right side
+pub residues-long : (q n : ℕ) (ws : List ℕ) → T (isEquation n (equationWords (wordsIn ws)))
+    → length (residuesOf q (equationWords (wordsIn ws))) ≡ n + 1
+residues-long q n ws shape =
+    ap (λ (words : List Word). length (residuesOf q words)) (equation-memory ws)
+    ∙ residues-count q (behindOwn ws)
+    ∙ equation-length n (behindOwn ws)
+    (ap (isEquation n) (sym (equation-memory ws)) ∙ true-of (isEquation n (equationWords (wordsIn ws))) shape)
+
+-- ---- what is let through
 
 pub accepted-allows : (l : Ledger) (e : Entry) → refusalOf l (enters e) ≡ 0 → Allows l (effectOf l e)
 accepted-allows l (opens ws) none = let yes = accepted-yes l (enters (opens ws)) none in (yes .1 .0, yes .1 .1 .0)
 accepted-allows l (adds ws) none =
     let yes = accepted-yes l (enters (adds ws)) none in
-    let m = modulusOf l in
     let n = unknownsOf l in
-    let residues = residuesOf m (wordsIn ws) in
-    let long : length residues ≡ n + 1 =
-    residues-count m ws ∙ equation-length n ws (true-of (isEquation n (wordsIn ws)) (yes .1 .0)) in
+    let q = ownModulus (modulusOf l) (wordsIn ws) in
+    let words = equationWords (wordsIn ws) in
+    let residues = residuesOf q words in
+    let long : length residues ≡ n + 1 = residues-long q n ws (yes .1 .0) in
+    let pos : 0 < q = omega (arith, own-least (modulusOf l) q (yes .1 .1 .0)) in
     record {
       opened = yes .0;
-      under = ltb→lt (length (equationsIn l)) mostEquations (yes .1 .1 .0);
+      under = ltb→lt (length (linesIn l)) mostEquations (yes .1 .1 .1 .0);
       shaped = length-take-le n residues (omega (arith, long));
-      coefficients = λ pos. below-take m n residues (residues-below m (wordsIn ws) pos);
-      right = λ pos. below-at m n residues (residues-below m (wordsIn ws) pos) (omega (arith, long));
+      own = λ two. yes .1 .1 .0;
+      coefficients = λ two. below-take q n residues (residues-below q words pos);
+      right = λ two. below-at q n residues (residues-below q words pos) (omega (arith, long));
     }
 accepted-allows l (types text) none =
     let yes = accepted-yes l (enters (types text)) none in
     let m = modulusOf l in
     let n = unknownsOf l in
     let (e, is, _) = passed (λ e. true) (typedOf text) (yes .1 .0) in
-    subst (Gains l) (sym (ap (equationIn m n) is))
+    subst (λ (x : Equation). Gains l (record { modulus = m; equation = x })) (sym (ap (equationIn m n) is))
     (record {
       opened = yes .0;
-      under = ltb→lt (length (equationsIn l)) mostEquations (yes .1 .1 .1 .1 .0);
+      under = ltb→lt (length (linesIn l)) mostEquations (yes .1 .1 .1 .1 .0);
       shaped = made-length m n e;
-      coefficients = λ pos. vector-below m n _ (equation-shaped m n e pos .0);
-      right = λ pos. equation-shaped m n e pos .1;
+      own = λ two. whole-own m two;
+      coefficients = λ two. vector-below m n _ (equation-shaped m n e (omega arith) .0);
+      right = λ two. equation-shaped m n e (omega arith) .1;
     })
 accepted-allows l (strikes number) none =
     let yes = accepted-yes l (enters (strikes number)) none in
-    (yes .0, omega (arith, ltb→lt 0 (length (equationsIn l)) (yes .1 .1 .0)))
+    (yes .0, omega (arith, ltb→lt 0 (length (linesIn l)) (yes .1 .1 .0)))
 
 pub enter-accepted : (l : Ledger) (e : Entry) → refusalOf l (enters e) ≡ 0 → enter l (enters e) ≡ changed l (effectOf l e)
 unfolding enter
@@ -86,12 +105,12 @@ without-length : {A : Type 0} (j : ℕ) (xs : List A) → j < length xs → leng
 without-length j xs h =
     omega (arith, length-append (take j xs) (drop (suc j) xs), length-take-le j xs (omega arith), length-drop (suc j) xs)
 
-pub gains-counts : (l : Ledger) (e : Equation) → T (isOpened l)
-    → length (equationsIn (changed l (gains e))) ≡ length (equationsIn l) + 1
-gains-counts unopened e is = absurd is
-gains-counts (opened m n es) e is = length-append es (e ∷ [])
+pub gains-counts : (l : Ledger) (line : Line) → T (isOpened l)
+    → length (linesIn (changed l (gains line))) ≡ length (linesIn l) + 1
+gains-counts unopened line is = absurd is
+gains-counts (opened m n ls) line is = length-append ls (line ∷ [])
 
-pub loses-counts : (l : Ledger) (j : ℕ) → j < length (equationsIn l)
-    → length (equationsIn (changed l (loses j))) ≡ length (equationsIn l) - 1
+pub loses-counts : (l : Ledger) (j : ℕ) → j < length (linesIn l)
+    → length (linesIn (changed l (loses j))) ≡ length (linesIn l) - 1
 loses-counts unopened j h = absurd (omega arith)
-loses-counts (opened m n es) j h = without-length j es h
+loses-counts (opened m n ls) j h = without-length j ls h

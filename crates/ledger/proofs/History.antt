@@ -5,7 +5,7 @@ use mathlib.Core.List.{List, [], _∷_, _++_}
 use Prim.Native.Nat.{ℕ}
 use borrow.Author.Tests.{eqb-true}
 use lib.Dec.{eqb}
-use Rattle.equations.specs.Equation.{Equation}
+use Rattle.equations.specs.Line.{Line}
 use Rattle.words.specs.Words.{wordsIn}
 use Rattle.ledger.specs.Ledger.{Ledger, unopened, opened}
 use Rattle.ledger.specs.Shapes.{numberAt}
@@ -43,14 +43,14 @@ module _ (P : Ledger → Type 0) (keeps : (l : Ledger) (e : Effect) → P l → 
 -- ---- once opened, always opened
 
 abbrev pub Opened : Ledger → Type 0
-Opened l = (m : ℕ) × (n : ℕ) × (es : List Equation) × (l ≡ opened m n es)
+Opened l = (m : ℕ) × (n : ℕ) × (ls : List Line) × (l ≡ opened m n ls)
 
 opened-changed : (l : Ledger) (e : Effect) → Opened l → Allows l e → Opened (changed l e)
 opened-changed l (begins m n) h allows = (m, n, [], refl)
-opened-changed unopened (gains e) h allows = h
-opened-changed (opened m n es) (gains e) h allows = (m, n, es ++ (e ∷ []), refl)
+opened-changed unopened (gains line) h allows = h
+opened-changed (opened m n ls) (gains line) h allows = (m, n, ls ++ (line ∷ []), refl)
 opened-changed unopened (loses j) h allows = h
-opened-changed (opened m n es) (loses j) h allows = (m, n, without j es, refl)
+opened-changed (opened m n ls) (loses j) h allows = (m, n, without j ls, refl)
 
 pub opening-opens : (before : List Call) (ws : List ℕ) (rest : List Call) → refusalOf (ledger before) (enters (opens ws)) ≡ 0
     → Opened (ledger (before ++ (enters (opens ws) ∷ rest)))

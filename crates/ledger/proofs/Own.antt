@@ -1,5 +1,6 @@
 -- The words of an answer with a starting vector, read as a claim.
 --   words-claim, words-entries    a head and entries in words are a claim, and have the entries that they were made of
+--   line-vector, line-vectors     start and steps of lines are vectors
 --   own-shape, own-entries        so it is with the words of such an answer: they are well-formed,
 --   own-claim                     and claim the starting vector with the steps
 use mathlib.Core.Path.{_≡_, sym, ap, ap₂, subst, _∙_}
@@ -10,14 +11,14 @@ use native.Mathlib.Omega.{arith}
 use lib.ListN.{length, replicate, length-append}
 use lib.Dec.{T, leb, le→leb}
 use mir.Facts.{yes-and}
-use Rattle.equations.specs.Vectors.{Below}
-use Rattle.equations.specs.Equation.{Equation}
-use Rattle.equations.specs.Answer.{startOf, stepsOf}
+use Rattle.equations.specs.Vectors.{Vector, AllVectors, Below}
+use Rattle.equations.specs.Line.{Line, Moduli, lineStart, lineSteps, scaled}
 use Rattle.equations.specs.Multipliers.{allBelow}
 use Rattle.equations.specs.Claim.{from}
 use Rattle.equations.proofs.Lists.{same-of-eq}
 use Rattle.equations.proofs.Vectors.{vector-length, vector-below, below-append, below-mono, all-below}
 use Rattle.equations.proofs.Answer.{start-solves}
+use Rattle.equations.proofs.LineAnswer.{line-start, line-steps}
 use Rattle.equations.proofs.Listed.{flat-below, flat-length, steps-vectors, steps-few}
 use Rattle.system.specs.Claims.{claimOf}
 use Rattle.system.proofs.Claims.{claim-of-flat}
@@ -55,17 +56,34 @@ module _ (h : ℕ) (xs : List ℕ) (below : Below numbersOfAKind xs) where
       (written-kinds small
       ∙ ap (λ (k : ℕ). headKind ∷ replicate k entryKind) (long ∙ ap (λ (k : ℕ). k * n) (sym number))))
 
-module _ (m n : ℕ) (es : List Equation) (largest : m ≤ numbersOfAKind) (c : List ℕ) (start : startOf m n es ≡ some c) where
+module _ (m n : ℕ) (pos : 0 < m) (ls : List Line) (moduli : Moduli m ls) where
+  pub line-vector : (c : List ℕ) → lineStart m n ls ≡ some c → Vector m n c
+  line-vector c start = start-solves m n (scaled m ls) c (sym (line-start m n pos ls moduli) ∙ start) .0
+
+  pub line-vectors : AllVectors m n (lineSteps m n ls)
+  line-vectors = subst (AllVectors m n) (sym (line-steps m n pos ls moduli)) (steps-vectors m n (scaled m ls))
+
+  few : length (lineSteps m n ls) ≤ n
+  few = subst (λ (ss : List (List ℕ)). length ss ≤ n) (sym (line-steps m n pos ls moduli)) (steps-few m n (scaled m ls))
+
+module _ (m n : ℕ) (pos : 0 < m) (ls : List Line) (moduli : Moduli m ls) (largest : m ≤ numbersOfAKind) (c : List ℕ)
+    (start : lineStart m n ls ≡ some c) where
   abbrev steps : List (List ℕ)
-  steps = stepsOf m n es
+  steps = lineSteps m n ls
+
+  vector : Vector m n c
+  vector = line-vector m n pos ls moduli c start
+
+  vectors : AllVectors m n steps
+  vectors = line-vectors m n pos ls moduli
 
   abbrev entries : List ℕ
   entries = c ++ flatten steps
 
   residues : Below m entries
   residues =
-      below-append m c (flatten steps) (vector-below m n c (start-solves m n es c start .0))
-      (flat-below m n steps (steps-vectors m n es))
+      below-append m c (flatten steps) (vector-below m n c vector)
+      (flat-below m n steps vectors)
 
   numbers : Below numbersOfAKind entries
   numbers = below-mono m numbersOfAKind entries largest residues
@@ -75,25 +93,25 @@ module _ (m n : ℕ) (es : List Equation) (largest : m ≤ numbersOfAKind) (c : 
       omega (
         arith,
         length-append c (flatten steps),
-        vector-length m n c (start-solves m n es c start .0),
-        flat-length m n steps (steps-vectors m n es),
+        vector-length m n c vector,
+        flat-length m n steps vectors,
       )
 
-  pub own-shape : n ≤ 16 → T (isClaim n (wordsIn (answerWords (opened m n es))))
+  pub own-shape : n ≤ 16 → T (isClaim n (wordsIn (answerWords (opened m n ls))))
   own-shape unknowns =
-      subst (λ (ws : List ℕ). T (isClaim n (wordsIn ws))) (sym (answer-some m n es c start))
-      (words-claim (suc (length steps)) entries numbers n (omega (arith, steps-few m n es)) entries-length)
+      subst (λ (ws : List ℕ). T (isClaim n (wordsIn ws))) (sym (answer-some m n ls c start))
+      (words-claim (suc (length steps)) entries numbers n (omega (arith, few m n pos ls moduli)) entries-length)
 
-  entries-are : entriesOf (wordsIn (answerWords (opened m n es))) ≡ entries
+  entries-are : entriesOf (wordsIn (answerWords (opened m n ls))) ≡ entries
   entries-are =
-      ap (λ (ws : List ℕ). entriesOf (wordsIn ws)) (answer-some m n es c start)
+      ap (λ (ws : List ℕ). entriesOf (wordsIn ws)) (answer-some m n ls c start)
       ∙ words-entries (suc (length steps)) entries numbers
 
-  pub own-entries : T (allBelow m (entriesOf (wordsIn (answerWords (opened m n es)))))
+  pub own-entries : T (allBelow m (entriesOf (wordsIn (answerWords (opened m n ls)))))
   own-entries =
       subst (λ (xs : List ℕ). T (allBelow m xs)) (sym entries-are) (all-below m entries .1 residues)
 
-  pub own-claim : 0 < n → claimFrom n (wordsIn (answerWords (opened m n es))) ≡ from c (stepsOf m n es)
-  own-claim pos =
+  pub own-claim : 0 < n → claimFrom n (wordsIn (answerWords (opened m n ls))) ≡ from c (lineSteps m n ls)
+  own-claim some-n =
       ap (claimOf n) entries-are
-      ∙ claim-of-flat m n c steps pos (start-solves m n es c start .0) (steps-vectors m n es)
+      ∙ claim-of-flat m n c steps some-n vector vectors

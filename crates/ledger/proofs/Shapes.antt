@@ -1,20 +1,21 @@
 -- How many words an opening, an equation and a claim have, and what follows for their numbers.
 --   opening-length     an opening has two words
 --   equation-length    an equation has n + 1
+--   behindOwn, equation-memory   the words behind a modulus of its own, where there is one
 --   claim-kind         a claim begins with a head,
 --   claim-head         which is at most 17
 --   claim-length       and counts the vectors of n words behind it,
 --   claim-some         so that there is a head,
 --   claim-fits         and behind it no more words than 17 vectors of 16 entries
 --   claimed            its entries are whole vectors
-use mathlib.Core.Path.{_≡_, sym, ap, _∙_}
-use mathlib.Core.Bool.{true}
+use mathlib.Core.Path.{_≡_, refl, sym, ap, _∙_}
+use mathlib.Core.Bool.{Bool, true, false, cond}
 use mathlib.Core.List.{List, [], _∷_, _++_}
 use Prim.Native.Nat.{ℕ, suc, _+_, _*_, _%_, _<_, _≤_}
 use native.Mathlib.Nat.{mul-le-mul, mul-mod-left}
 use native.Mathlib.Omega.{arith}
 use lib.Dec.{T, leb, leb→le, eqb, eqb→eq}
-use lib.ListN.{length, getD, replicate, length-drop, length-append, length-replicate}
+use lib.ListN.{length, drop, getD, replicate, length-drop, length-append, length-replicate}
 use mir.Facts.{and-yes}
 use Rattle.equations.specs.Multipliers.{allBelow}
 use Rattle.equations.proofs.Truth.{true-of}
@@ -24,7 +25,7 @@ use Rattle.words.specs.Words.{wordOf, wordsIn, kindsOf, numbersOf, haveKinds, m
 use Rattle.words.specs.Signs.{plainKindsOf}
 use Rattle.words.proofs.Compared.{kinds-length}
 use Rattle.words.proofs.Words.{plainKindOf, parts-count, kinds-count, numbers-count}
-use Rattle.ledger.specs.Shapes.{numberAt, isOpening, isEquation, isClaim, entriesOf, largestHead}
+use Rattle.ledger.specs.Shapes.{numberAt, isOpening, isEquation, hasOwn, equationWords, isClaim, entriesOf, largestHead}
 
 -- as many words as kinds
 have-length : (ws ks : List ℕ) → haveKinds (wordsIn ws) ks ≡ true → length ws ≡ length ks
@@ -42,6 +43,19 @@ pub equation-length : (n : ℕ) (ws : List ℕ) → isEquation n (wordsIn ws) �
 equation-length n ws shape =
     sym (parts-count plainKindOf ws)
     ∙ kinds-length (plainKindsOf (wordsIn ws)) (replicate n coefficientKind ++ (rightKind ∷ [])) shape ∙ equation-kinds n
+
+-- the memory of an equation's words, behind the modulus of its own
+abbrev pub behindOwn : List ℕ → List ℕ
+behindOwn ws = cond (hasOwn (wordsIn ws)) (drop 1 ws) ws
+
+pub equation-memory : (ws : List ℕ) → equationWords (wordsIn ws) ≡ wordsIn (behindOwn ws)
+unfolding wordsIn
+equation-memory [] = refl
+equation-memory (w ∷ ws) = go (hasOwn (wordsIn (w ∷ ws)))
+  where
+    go : (own : Bool) → cond own (wordsIn ws) (wordsIn (w ∷ ws)) ≡ wordsIn (cond own ws (w ∷ ws))
+    go true = refl
+    go false = refl
 
 -- the first of them
 have-first : (ws : List ℕ) (k : ℕ) (ks : List ℕ) → T (haveKinds (wordsIn ws) (k ∷ ks)) → wordOf (getD ws 0 0) .kind ≡ k

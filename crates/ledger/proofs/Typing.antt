@@ -8,7 +8,7 @@ use native.Mathlib.Omega.{arith}
 use lib.Dec.{ltb}
 use lib.ListN.{length}
 use Rattle.questions.specs.Questions.{Question, asks, firstNo}
-use Rattle.equations.specs.Equation.{Equation}
+use Rattle.equations.specs.Line.{Line}
 use Rattle.grammar.specs.Texts.{isTyped, isWithin, isLinear}
 use Rattle.ledger.specs.Ledger.{opened, mostEquations}
 use Rattle.ledger.specs.Calls.{types, enters}
@@ -24,12 +24,12 @@ not-eleven true true false h = omega arith
 not-eleven true false under h = omega arith
 not-eleven false linear under h = omega arith
 
-pub eleven-given : (m n : ℕ) (es : List Equation) (text : List ℕ)
-    → (refusalOf (opened m n es) (enters (types text)) ≡ 11) ↔ (isTyped text ≡ false)
+pub eleven-given : (m n : ℕ) (ls : List Line) (text : List ℕ)
+    → (refusalOf (opened m n ls) (enters (types text)) ≡ 11) ↔ (isTyped text ≡ false)
 unfolding refusalOf
-eleven-given m n es text = (to (isTyped text), λ h. rw h)
+eleven-given m n ls text = (to (isTyped text), λ h. rw h)
   where
     to : (typed : Bool)
-        → firstNo (asks 11 typed ∷ others (isWithin n text) (isLinear text) (ltb (length es) mostEquations)) ≡ 11 → typed ≡ false
-    to true h = absurd (not-eleven (isWithin n text) (isLinear text) (ltb (length es) mostEquations) h)
+        → firstNo (asks 11 typed ∷ others (isWithin n text) (isLinear text) (ltb (length ls) mostEquations)) ≡ 11 → typed ≡ false
+    to true h = absurd (not-eleven (isWithin n text) (isLinear text) (ltb (length ls) mostEquations) h)
     to false h = refl

@@ -8,4 +8,4 @@ use Rattle.ledger.specs.Ledger.{Ledger, unopened, opened, isOpened, unkn
 
 pub unknowns-none : (l : Ledger) → isOpened l ≡ false → unknownsOf l ≡ 0
 unknowns-none unopened h = refl
-unknowns-none (opened m n es) h = let z : _≡_ {A = ℕ} 0 1 = cc in absurd (omega arith)
+unknowns-none (opened m n ls) h = let z : _≡_ {A = ℕ} 0 1 = cc in absurd (omega arith)

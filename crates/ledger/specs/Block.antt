@@ -1,7 +1,7 @@
 -- The answer block in words. Definitions only.
 use mathlib.Core.List.{List, [], _∷_}
 use Prim.Native.Nat.{ℕ, zero, suc}
-use Rattle.system.specs.Block.{blockOf}
+use Rattle.system.specs.Lines.{lineBlock}
 use Rattle.words.specs.Words.{word, wordsOf, headKind, entryKind, multiplierKind}
 use Rattle.ledger.specs.Ledger.{Ledger, unopened, opened}
 
@@ -16,7 +16,7 @@ blockWords (suc k ∷ xs) = word headKind (suc k) ∷ wordsOf entryKind xs
 abbrev pub longestBlock : ℕ
 longestBlock = 273
 
--- the block that answers the equations in the ledger
+-- the block that answers the lines in the ledger
 unfoldable pub answerWords : Ledger → List ℕ
 answerWords unopened = []
-answerWords (opened m n es) = blockWords (blockOf m n es)
+answerWords (opened m n ls) = blockWords (lineBlock m n ls)

@@ -4,27 +4,29 @@ use mathlib.Core.List.{List, [], _∷_, _++_}
 use Prim.Native.Nat.{ℕ, suc, _-_}
 use lib.ListN.{length, take, drop}
 use Rattle.questions.specs.Questions.{unlessRefused}
-use Rattle.equations.specs.Equation.{Equation}
+use Rattle.equations.specs.Line.{Line}
 use Rattle.words.specs.Words.{wordsIn}
 use Rattle.grammar.specs.Texts.{typedOf, equationIn}
-use Rattle.ledger.specs.Ledger.{Ledger, unopened, opened, modulusOf, unknownsOf, equationsIn}
-use Rattle.ledger.specs.Shapes.{numberAt, equationFrom}
+use Rattle.ledger.specs.Ledger.{Ledger, unopened, opened, modulusOf, unknownsOf, linesIn}
+use Rattle.ledger.specs.Shapes.{numberAt, lineFrom}
 use Rattle.ledger.specs.Calls.{Entry, opens, adds, types, strikes, Call, enters, queries}
 use Rattle.ledger.specs.Questions.{refusalOf}
 
--- m and n with no equations; an equation more; the equation at this place, counted from 0, gone
+-- m and n with no lines; a line more; the line at this place, counted from 0, gone
 pub data Effect : Type 0 where
   begins : ℕ → ℕ → Effect
-  gains : Equation → Effect
+  gains : Line → Effect
   loses : ℕ → Effect
 
 abbrev pub effectOf : Ledger → Entry → Effect
 effectOf l (opens ws) = begins (numberAt (wordsIn ws) 0) (numberAt (wordsIn ws) 1)
-effectOf l (adds ws) = gains (equationFrom (modulusOf l) (unknownsOf l) (wordsIn ws))
--- "The unknowns' coefficients, brought to the left, and the plain numbers, brought to the right, all mod m, make the equation added."
-effectOf l (types text) = gains (equationIn (modulusOf l) (unknownsOf l) (typedOf text))
+effectOf l (adds ws) = gains (lineFrom (modulusOf l) (unknownsOf l) (wordsIn ws))
+-- "The unknowns' coefficients, brought to the left, and the plain numbers, brought to the right, all mod m, make the equation added."; "for
+-- typed text, q is m"
+effectOf l (types text) =
+    gains (record { modulus = modulusOf l; equation = equationIn (modulusOf l) (unknownsOf l) (typedOf text) })
 -- "Accepted strike: the last equation goes."
-effectOf l (strikes number) = loses (length (equationsIn l) - 1)
+effectOf l (strikes number) = loses (length (linesIn l) - 1)
 
 -- all but what stands at place j
 abbrev pub without : {A : Type 0} → ℕ → List A → List A
@@ -35,10 +37,10 @@ abbrev pub changed : Ledger → Effect → Ledger
 -- "Accepted open: m, n, empty list, whatever was there before."
 changed l (begins m n) = opened m n []
 -- "Accepted add: the equation goes to the end, also when the list already has no solution."
-changed unopened (gains e) = unopened
-changed (opened m n es) (gains e) = opened m n (es ++ (e ∷ []))
+changed unopened (gains line) = unopened
+changed (opened m n ls) (gains line) = opened m n (ls ++ (line ∷ []))
 changed unopened (loses j) = unopened
-changed (opened m n es) (loses j) = opened m n (without j es)
+changed (opened m n ls) (loses j) = opened m n (without j ls)
 
 -- "Answer, mark and refused calls: unchanged."
 unfoldable pub enter : Ledger → Call → Ledger

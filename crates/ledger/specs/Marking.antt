@@ -1,27 +1,29 @@
 -- The mark of a claim that lies in words, and the reason beside it. Definitions only.
+use mathlib.Core.Bool.{cond}
 use mathlib.Core.List.{List}
 use Prim.Native.Nat.{ℕ}
 use Rattle.equations.specs.declared.Mark.{Mark}
+use Rattle.equations.specs.declared.Mark.the-variants.{Pass, Fail}
 use Rattle.equations.specs.declared.Reason.{Reason}
 use Rattle.equations.specs.declared.Reason.the-variants.{Right, Solvable, Unsolvable, Breaks, Changes, Misses}
-use Rattle.equations.specs.Claim.{markOf}
-use Rattle.equations.specs.Reasons.{reasonOf}
-use Rattle.system.specs.Reasons.{shownWith}
+use Rattle.equations.specs.Line.{linePasses}
+use Rattle.equations.specs.LineReasons.{lineReason}
+use Rattle.system.specs.Lines.{lineShown}
 use Rattle.words.specs.Words.{wordsIn, wordsOf, entryKind, multiplierKind}
-use Rattle.ledger.specs.Ledger.{Ledger, modulusOf, unknownsOf, equationsIn}
+use Rattle.ledger.specs.Ledger.{Ledger, modulusOf, unknownsOf, linesIn}
 use Rattle.ledger.specs.Shapes.{claimFrom}
 
--- "Pass if the described vectors are those that solve the ledger's equations, fail otherwise."
+-- "Pass if the described vectors are those that solve the ledger's equations, fail otherwise.", each line mod its q
 abbrev pub claimMark : Ledger → List ℕ → Mark
-claimMark l ws = markOf (modulusOf l) (unknownsOf l) (equationsIn l) (claimFrom (unknownsOf l) (wordsIn ws))
+claimMark l ws = cond (linePasses (modulusOf l) (unknownsOf l) (linesIn l) (claimFrom (unknownsOf l) (wordsIn ws))) Pass Fail
 
 -- "The tool gives the first of these that holds"
 abbrev pub claimReason : Ledger → List ℕ → Reason
-claimReason l ws = reasonOf (modulusOf l) (unknownsOf l) (equationsIn l) (claimFrom (unknownsOf l) (wordsIn ws))
+claimReason l ws = lineReason (modulusOf l) (unknownsOf l) (linesIn l) (claimFrom (unknownsOf l) (wordsIn ws))
 
 -- the numbers that are shown beside it
 abbrev pub reasonNumbers : Ledger → List ℕ → List ℕ
-reasonNumbers l ws = shownWith (modulusOf l) (unknownsOf l) (equationsIn l) (claimFrom (unknownsOf l) (wordsIn ws))
+reasonNumbers l ws = lineShown (modulusOf l) (unknownsOf l) (linesIn l) (claimFrom (unknownsOf l) (wordsIn ws))
 
 -- "It writes words of kinds 6 and 7 as the answer does": the entries of a vector, or multipliers
 abbrev pub shownKind : Reason → ℕ

@@ -5,13 +5,13 @@ use mathlib.Core.List.{List, [], _∷_, _++_}
 use Prim.Native.Nat.{ℕ}
 use lib.Dec.{eqb, leb, ltb}
 use lib.ListN.{length}
-use Rattle.questions.specs.Questions.{Question, asks, firstNo, allowedModulus}
+use Rattle.questions.specs.Questions.{Question, asks, firstNo, allowedModulus, allowedOwn}
 use Rattle.questions.specs.Reply.{fits}
 use Rattle.equations.specs.Multipliers.{allBelow}
 use Rattle.words.specs.Words.{wordOf, wordsIn}
 use Rattle.grammar.specs.Texts.{isTyped, isWithin, isLinear}
-use Rattle.ledger.specs.Ledger.{Ledger, isOpened, modulusOf, unknownsOf, equationsIn, mostEquations, mostUnknowns}
-use Rattle.ledger.specs.Shapes.{numberAt, isOpening, isEquation, isClaim, entriesOf}
+use Rattle.ledger.specs.Ledger.{Ledger, isOpened, modulusOf, unknownsOf, linesIn, mostEquations, mostUnknowns}
+use Rattle.ledger.specs.Shapes.{numberAt, isOpening, isEquation, ownModulus, equationWords, isClaim, entriesOf}
 use Rattle.ledger.specs.Block.{answerWords}
 use Rattle.ledger.specs.Marking.{reasonWords}
 use Rattle.ledger.specs.Classes.{mostClaims, claimsIn}
@@ -40,11 +40,13 @@ questions l (enters (opens ws)) =
     ∷ asks 2 (allowedModulus (numberAt (wordsIn ws) 0))
     ∷ asks 3 (allowedUnknowns (numberAt (wordsIn ws) 1))
     ∷ []
--- "Add: opened? 4. Shape right, length included? 1. Under 16 equations? 5."; "Adding .. no longer refuse[s] with 6"
+-- "Add: opened? 4. Shape right, length included? 1. Under 16 equations? 5."; "Adding .. no longer refuse[s] with 6"; "Turned away: right
+-- after shape and before 5, q below 2 or not dividing m 15."
 questions l (enters (adds ws)) =
     asks 4 (isOpened l)
-    ∷ asks 1 (isEquation (unknownsOf l) (wordsIn ws))
-    ∷ asks 5 (ltb (length (equationsIn l)) mostEquations)
+    ∷ asks 1 (isEquation (unknownsOf l) (equationWords (wordsIn ws)))
+    ∷ asks 15 (allowedOwn (modulusOf l) (ownModulus (modulusOf l) (wordsIn ws)))
+    ∷ asks 5 (ltb (length (linesIn l)) mostEquations)
     ∷ []
 -- "after 4, not in the grammar or too long 11; then an unknown beyond n 12; then not linear 13; then 5"
 questions l (enters (types text)) =
@@ -52,13 +54,13 @@ questions l (enters (types text)) =
     ∷ asks 11 (isTyped text)
     ∷ asks 12 (isWithin (unknownsOf l) text)
     ∷ asks 13 (isLinear text)
-    ∷ asks 5 (ltb (length (equationsIn l)) mostEquations)
+    ∷ asks 5 (ltb (length (linesIn l)) mostEquations)
     ∷ []
 -- "Strike: opened? 4. On tape, number 0? 1. An equation there? 7."
 questions l (enters (strikes number)) =
     asks 4 (isOpened l)
     ∷ asks 1 (eqb number 0)
-    ∷ asks 7 (ltb 0 (length (equationsIn l)))
+    ∷ asks 7 (ltb 0 (length (linesIn l)))
     ∷ []
 -- "Answer: opened? 4. On tape, number 0? 1. Buffer long enough for this block? 8; on tape it always is."
 questions l (queries (answers buffer)) = asks 4 (isOpened l) ∷ asks 8 (fits (answerWords l) buffer) ∷ []
@@ -72,7 +74,7 @@ questions l (queries (classes ws bytes)) =
     ∷ asks 14 (leb (length (claimsIn (unknownsOf l) ws)) mostClaims)
     ∷ asks 8 (leb (length (claimsIn (unknownsOf l) ws)) (length bytes))
     ∷ []
--- "A first word of kind 0, 2, 4, 6, 7 or 10..15 is refused with 1, opened or not.": all of these but 10, which begins an add
+-- "A first word of kind 0, 2, 4, 6, 7 or 10..15 is refused with 1, opened or not.": all of these but 10 and 12, which begin an add
 questions l (queries (meaningless w)) = asks 1 false ∷ []
 
 -- the number of the question that turns the call away, or 0 where it is accepted

@@ -1,16 +1,17 @@
 -- How an opening, an equation and a claim lie in words. Definitions only.
-use mathlib.Core.Bool.{Bool, cond, _&&_}
+use mathlib.Core.Bool.{Bool, false, cond, _&&_}
 use mathlib.Core.List.{List, [], _∷_, _++_}
 use Prim.Native.Nat.{ℕ, _+_, _*_}
-use lib.Dec.{leb}
+use lib.Dec.{eqb, leb}
 use lib.ListN.{drop, getD, replicate}
 use Rattle.equations.specs.Vectors.{sameVector}
 use Rattle.equations.specs.Equation.{Equation}
 use Rattle.equations.specs.Lines.{equationAt}
+use Rattle.equations.specs.Line.{Line}
 use Rattle.equations.specs.Claim.{Claim}
 use Rattle.system.specs.Claims.{claimOf}
 use Rattle.words.specs.declared.unpacking.Word.{Word}
-use Rattle.words.specs.Words.{numbersOf, haveKinds, modulusKind, unknownsKind, coefficientKind, rightKind, headKind, entryKind}
+use Rattle.words.specs.Words.{numbersOf, haveKinds, modulusKind, unknownsKind, coefficientKind, rightKind, headKind, entryKind, ownModulusKind}
 use Rattle.words.specs.Signs.{plainKindsOf, residuesOf}
 
 -- the number of the i-th word
@@ -25,9 +26,27 @@ isOpening words = haveKinds words (modulusKind ∷ unknownsKind ∷ [])
 abbrev pub isEquation : ℕ → List Word → Bool
 isEquation n words = sameVector (plainKindsOf words) (replicate n coefficientKind ++ (rightKind ∷ []))
 
--- the equation that lies in well-formed words, mod m: "The ledger holds residues"
+-- the equation that lies in well-formed words, mod q: "The ledger holds residues"
 abbrev pub equationFrom : ℕ → ℕ → List Word → Equation
-equationFrom m n words = equationAt n (residuesOf m words)
+equationFrom q n words = equationAt n (residuesOf q words)
+
+-- "a word of kind 12 with q precedes the equation": whether one does
+abbrev pub hasOwn : List Word → Bool
+hasOwn [] = false
+hasOwn (w ∷ words) = eqb (w .kind) ownModulusKind
+
+-- the modulus of the line, on a sheet mod m: "without it .. q is m"
+abbrev pub ownModulus : ℕ → List Word → ℕ
+ownModulus m words = cond (hasOwn words) (numberAt words 0) m
+
+-- the words of the equation: those behind it
+abbrev pub equationWords : List Word → List Word
+equationWords words = cond (hasOwn words) (drop 1 words) words
+
+-- the line that lies in well-formed words, on a sheet mod m: "Its numbers become residues mod q."
+abbrev pub lineFrom : ℕ → ℕ → List Word → Line
+lineFrom m n words =
+    record { modulus = ownModulus m words; equation = equationFrom (ownModulus m words) n (equationWords words) }
 
 -- 1 for the starting vector, and 1 for each of so many steps as there can be places
 abbrev pub largestHead : ℕ

@@ -1,14 +1,15 @@
 -- Questions asked one after the other.
 --   thenAsks        one question more, as the code asks it
 --   before-none     where nothing is refused then, nothing was before
+--   answer-yes      and this question has the answer yes
 --   Asked           a number is what these questions give
 --   nothing-asked   before the first question
 --   then-asked      a question more: where those so far have the answer yes, its own answer decides
 --   asked-enough    where one of them turned the call away, those behind them are not asked
 use mathlib.Core.Path.{_≡_, refl, sym, ap, _∙_}
-use mathlib.Core.Bool.{Bool, true, cond}
+use mathlib.Core.Bool.{Bool, true, false, cond}
 use mathlib.Core.List.{List, [], _∷_, _++_}
-use Prim.Native.Nat.{ℕ, zero, suc}
+use Prim.Native.Nat.{ℕ, zero, suc, _<_}
 use native.Mathlib.Omega.{arith}
 use borrow.Author.Tests.{ne-eqb}
 use lib.Dec.{T, ltb}
@@ -23,6 +24,11 @@ thenAsks before number answer = unlessRefused (λ k. k) before (firstNo (asks nu
 pub before-none : (before number : ℕ) (answer : Bool) → thenAsks before number answer ≡ 0 → before ≡ 0
 before-none zero number answer none = refl
 before-none (suc k) number answer none = rw (ne-eqb (suc k) 0 (λ e. omega arith)) at none
+
+pub answer-yes : (before number : ℕ) (answer : Bool) → 0 < number → thenAsks before number answer ≡ 0 → T answer
+answer-yes before number true some none = tt
+answer-yes zero number false some none = omega (arith, none)
+answer-yes (suc k) number false some none = omega (arith, before-none (suc k) number false none)
 
 pub record Asked (qs : List Question) (r : ℕ) : Type 0 where
   pub numbers : T (numbered qs)

@@ -6,16 +6,19 @@
 --   unless-either     what a call gives is its answer, and nothing turned it away, or the refusal
 --   first-no-append   the questions of a second list are asked where none of the first turns a call away
 --   within-range      the test of a modulus or of a number of unknowns says that it lies in its range
+--   own-least         a line's modulus is 2 at least,
+--   whole-own         and the sheet's may be one
 use mathlib.Core.Path.{_≡_, refl}
 use mathlib.Core.Logic.{_↔_, _⊎_, inl, inr}
 use mathlib.Core.Bool.{Bool, true, false, cond, _&&_}
 use mathlib.Core.List.{List, [], _∷_, _++_}
-use Prim.Native.Nat.{ℕ, _≤_}
+use Prim.Native.Nat.{ℕ, _%_, _≤_}
+use native.Mathlib.Nat.{mod-self}
 use native.Mathlib.Omega.{arith}
 use borrow.Author.Tests.{ne-eqb, eqb-true, eqb-false}
 use lib.Dec.{T, eqb, leb, ltb, leb→le, le→leb, ltb→lt}
-use mir.Facts.{and-yes, yes-and}
-use Rattle.questions.specs.Questions.{Question, firstNo, unlessRefused}
+use mir.Facts.{and-yes, yes-and, yes-eqb}
+use Rattle.questions.specs.Questions.{Question, firstNo, unlessRefused, allowedOwn}
 
 abbrev pub numbered : List Question → Bool
 numbered [] = true
@@ -68,3 +71,9 @@ within-range low k high = (
   (λ t. let b = and-yes (leb low k) (leb k high) t in (leb→le low k (b .0), leb→le k high (b .1))),
   λ b. yes-and (leb low k) (leb k high) (le→leb low k (b .0)) (le→leb k high (b .1)),
 )
+
+pub own-least : (m q : ℕ) → T (allowedOwn m q) → 2 ≤ q
+own-least m q t = leb→le 2 q (and-yes (leb 2 q) (eqb (m % q) 0) t .0)
+
+pub whole-own : (m : ℕ) → 2 ≤ m → T (allowedOwn m m)
+whole-own m two = yes-and (leb 2 m) (eqb (m % m) 0) (le→leb 2 m two) (yes-eqb (mod-self m))

@@ -1,7 +1,7 @@
--- The questions of document 01, each with the number that is given when its answer is no. Definitions only.
+-- The questions of documents 01 and 02, each with the number that is given when its answer is no. Definitions only.
 use mathlib.Core.Bool.{Bool, cond, _&&_}
 use mathlib.Core.List.{List, [], _∷_}
-use Prim.Native.Nat.{ℕ}
+use Prim.Native.Nat.{ℕ, _%_}
 use lib.Dec.{eqb, leb}
 
 -- a question: its number, and whether the answer is yes
@@ -27,3 +27,7 @@ largestModulus = 65535
 
 abbrev pub allowedModulus : ℕ → Bool
 allowedModulus m = leb 2 m && leb m largestModulus
+
+-- whether a line on a sheet mod m may have the modulus q: "a modulus q that divides the sheet's m", and "q below 2" is turned away
+abbrev pub allowedOwn : ℕ → ℕ → Bool
+allowedOwn m q = leb 2 q && eqb (m % q) 0

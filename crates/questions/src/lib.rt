@@ -1,7 +1,7 @@
-// What the sheet, the safe and the C face have in common: how questions are asked one after the other, and the test of a modulus.
+// What the sheet, the safe and the C face have in common: how questions are asked one after the other, and the tests of a modulus.
 ghost use mathlib.Core.Path.{_≡_};
 ghost use mathlib.Core.List.{[], _∷_};
-ghost use Rattle.questions.specs.Questions.{asks, firstNo, unlessRefused, allowedModulus};
+ghost use Rattle.questions.specs.Questions.{asks, firstNo, unlessRefused, allowedModulus, allowedOwn};
 
 const LARGEST_MODULUS: u32 = 65535;
 
@@ -9,6 +9,13 @@ pub fn is_modulus(m: u32) -> bool
     ensures { λ r. ⌜ r ≡ allowedModulus m ⌝ }
 {
     2 <= m && m <= LARGEST_MODULUS
+}
+
+// Whether a line on a sheet mod m may have the modulus q.
+pub fn is_own_modulus(m: u32, q: u32) -> bool
+    ensures { λ r. ⌜ r ≡ allowedOwn m q ⌝ }
+{
+    2 <= q && m % q == 0
 }
 
 // One question more behind those that gave `before`: a refusal's number, or 0 where all had the answer yes.

@@ -1,67 +1,121 @@
 -- What is said of an equation in words, `right-adding`, where the ledger that a sheet reads as is opened.
 use mathlib.Core.Path.{_≡_, refl, sym, ap, subst, _∙_}
 use mathlib.Core.Logic.{_↔_}
-use mathlib.Core.List.{List}
+use mathlib.Core.Bool.{Bool, true, false}
+use mathlib.Core.List.{List, [], _∷_}
 use Prim.Native.Nat.{ℕ, suc, _<_}
+use native.Mathlib.Omega.{arith}
 use borrow.Author.Tests.{lt-ltb}
-use lib.Dec.{T, ltb→lt}
+use lib.Dec.{T, ltb, ltb→lt}
 use lib.ListN.{length}
-use Rattle.equations.specs.Equation.{Equation, solvesOne}
+use Rattle.questions.specs.Questions.{asks, firstNo, allowedOwn}
+use Rattle.questions.proofs.Questions.{own-least}
+use Rattle.equations.specs.Equation.{solvesOne}
 use Rattle.equations.specs.Lines.{equationAt}
 use Rattle.equations.specs.Whole.{HoldsWhole}
+use Rattle.equations.specs.Line.{Line}
 use Rattle.equations.proofs.Truth.{true-of}
 use Rattle.equations.proofs.Promises.{residues-solve}
+use Rattle.lines.proofs.Stored.{own-divides, own-of-divides}
+use Rattle.words.specs.declared.unpacking.Word.{Word}
 use Rattle.words.specs.Words.{wordsIn}
 use Rattle.words.specs.Signs.{wholesOf}
 use Rattle.words.proofs.Minus.{residues-of}
 use Rattle.ledger.specs.Ledger.{Ledger, opened, mostEquations}
-use Rattle.ledger.specs.Shapes.{isEquation, equationFrom}
+use Rattle.ledger.specs.Shapes.{isEquation, equationFrom, ownModulus, equationWords, lineFrom}
 use Rattle.ledger.specs.Calls.{adds, enters}
 use Rattle.ledger.specs.Questions.{refusalOf}
 use Rattle.ledger.proofs.Questions.{accepted-yes}
-use Rattle.sheet.specs.declared.Entered.the-variants.{Holds}
+use Rattle.sheet.specs.declared.Entered.the-variants.{Holds, Refused}
 use Rattle.sheet.specs.Record.{Sheet, ledgerOf}
 use Rattle.sheet.specs.Calls.{enteredOf}
-use Rattle.sheet.specs.Promises.{RightAdding}
-use Rattle.sheet.proofs.Said.{holds-said, gained-said, gained-reads}
+use Rattle.sheet.specs.Promises.{LineModulus, RightAdding}
+use Rattle.sheet.proofs.Said.{refused-said, holds-said, gained-said, gained-reads}
 
-module _ (m n : ℕ) (es : List Equation) (ws : List ℕ) where
+modulus-asked : (m q : ℕ) → T (allowedOwn m q) ↔ LineModulus m q
+modulus-asked m q = ((λ t. (own-least m q t, own-divides m q t)), λ right. own-of-divides m q (right .0) (right .1))
+
+-- 15 is given exactly where the shape is right and the modulus is not
+fifteen-given : (shape own under : Bool)
+    → (firstNo (asks 1 shape ∷ asks 15 own ∷ asks 5 under ∷ []) ≡ 15) ↔ (T shape × (T own → ⊥))
+fifteen-given false own under = ((λ e. absurd (omega (arith, e))), λ both. absurd (both .0))
+fifteen-given true false under = ((λ e. (tt, λ t. t)), λ both. refl)
+fifteen-given true true true = ((λ e. absurd (omega (arith, e))), λ both. absurd (both .1 tt))
+fifteen-given true true false = ((λ e. absurd (omega (arith, e))), λ both. absurd (both .1 tt))
+
+module _ (m n : ℕ) (ls : List Line) (ws : List ℕ) where
   abbrev l : Ledger
-  l = opened m n es
+  l = opened m n ls
 
-  shape-and-room : (refusalOf l (enters (adds ws)) ≡ 0) ↔ (T (isEquation n (wordsIn ws)) × (length es < mostEquations))
+  abbrev q : ℕ
+  q = ownModulus m (wordsIn ws)
+
+  abbrev words : List Word
+  words = equationWords (wordsIn ws)
+
+  accepted-where : (refusalOf l (enters (adds ws)) ≡ 0) ↔ (T (isEquation n words) × LineModulus m q × (length ls < mostEquations))
   unfolding refusalOf
-  shape-and-room = (
+  accepted-where = (
     (λ none.
         let asked = accepted-yes l (enters (adds ws)) none in
-        (asked .1 .0, ltb→lt (length es) mostEquations (asked .1 .1 .0))),
-    λ (shape, room). rw (true-of (isEquation n (wordsIn ws)) shape, lt-ltb (length es) mostEquations room),
+        (asked .1 .0, modulus-asked m q .0 (asked .1 .1 .0), ltb→lt (length ls) mostEquations (asked .1 .1 .1 .0))),
+    λ (shape, modulus, room).
+        rw (
+          true-of (isEquation n words) shape,
+          true-of (allowedOwn m q) (modulus-asked m q .1 modulus),
+          lt-ltb (length ls) mostEquations room,
+        ),
   )
 
-  shape-said : (enteredOf l (adds ws) ≡ Holds (suc (length es))) ↔ (T (isEquation n (wordsIn ws)) × (length es < mostEquations))
-  shape-said = (
-    (λ said. shape-and-room .0 (holds-said l (adds ws) (suc (length es)) said)),
-    λ right. gained-said m n es (adds ws) refl (shape-and-room .1 right),
+  pub added-said : (enteredOf (opened m n ls) (adds ws) ≡ Holds (suc (length ls)))
+      ↔ (T (isEquation n (equationWords (wordsIn ws))) × LineModulus m (ownModulus m (wordsIn ws)) × (length ls < mostEquations))
+  added-said = (
+    (λ said. accepted-where .0 (holds-said l (adds ws) (suc (length ls)) said)),
+    λ right. gained-said m n ls (adds ws) refl (accepted-where .1 right),
   )
 
-  whole-solved : 0 < m → (v : List ℕ)
-      → HoldsWhole m n (wholesOf (wordsIn ws)) v ↔ T (solvesOne m (equationFrom m n (wordsIn ws)) v)
-  whole-solved positive v =
-      subst (λ (xs : List ℕ). HoldsWhole m n (wholesOf (wordsIn ws)) v ↔ T (solvesOne m (equationAt n xs) v))
-      (sym (residues-of m (wordsIn ws))) (residues-solve m n (wholesOf (wordsIn ws)) v positive)
+  fifteen-where : (refusalOf l (enters (adds ws)) ≡ 15) ↔ (T (isEquation n words) × (LineModulus m q → ⊥))
+  unfolding refusalOf
+  fifteen-where =
+      let given = fifteen-given (isEquation n words) (allowedOwn m q) (ltb (length ls) mostEquations) in (
+        (λ e. let both = given .0 e in (both .0, λ right. both .1 (modulus-asked m q .1 right))),
+        λ both. given .1 (both .0, λ t. both .1 (modulus-asked m q .0 t)),
+      )
 
-pub right-adding : (s : Sheet) (m n : ℕ) (es : List Equation) (ws : List ℕ) → ledgerOf s ≡ opened m n es → 0 < m
-    → RightAdding s m n es ws
-right-adding s m n es ws reads positive =
+  pub fifteen-said : (enteredOf (opened m n ls) (adds ws) ≡ Refused 15)
+      ↔ (T (isEquation n (equationWords (wordsIn ws))) × (LineModulus m (ownModulus m (wordsIn ws)) → ⊥))
+  unfolding enteredOf
+  fifteen-said = (
+    (λ said. fifteen-where .0 (refused-said l (adds ws) 15 said)),
+    λ right. rw (fifteen-where .1 right),
+  )
+
+-- the words, as whole numbers, hold mod q where their residues do
+whole-solved : (q n : ℕ) (words : List Word) → 0 < q → (v : List ℕ)
+    → HoldsWhole q n (wholesOf words) v ↔ T (solvesOne q (equationFrom q n words) v)
+whole-solved q n words positive v =
+    subst (λ (xs : List ℕ). HoldsWhole q n (wholesOf words) v ↔ T (solvesOne q (equationAt n xs) v))
+    (sym (residues-of q words)) (residues-solve q n (wholesOf words) v positive)
+
+pub right-adding : (s : Sheet) (m n : ℕ) (ls : List Line) (ws : List ℕ) → ledgerOf s ≡ opened m n ls
+    → RightAdding s m n ls ws (ownModulus m (wordsIn ws))
+right-adding s m n ls ws reads =
+    let q = ownModulus m (wordsIn ws) in
+    let words = equationWords (wordsIn ws) in
     record {
       allowed =
           subst
-          (λ (l : Ledger). (enteredOf l (adds ws) ≡ Holds (suc (length es)))
-          ↔ (T (isEquation n (wordsIn ws)) × (length es < mostEquations))) (sym reads) (shape-said m n es ws);
+          (λ (l : Ledger). (enteredOf l (adds ws) ≡ Holds (suc (length ls)))
+          ↔ (T (isEquation n words) × LineModulus m q × (length ls < mostEquations))) (sym reads) (added-said m n ls ws);
+      fifteen =
+          subst (λ (l : Ledger). (enteredOf l (adds ws) ≡ Refused 15) ↔ (T (isEquation n words) × (LineModulus m q → ⊥))) (sym reads)
+          (fifteen-said m n ls ws);
       accepted = λ k said.
-          let none = holds-said (opened m n es) (adds ws) k (ap (λ (l : Ledger). enteredOf l (adds ws)) (sym reads) ∙ said) in (
-            equationFrom m n (wordsIn ws),
-            gained-reads m n es (adds ws) refl none s reads,
-            whole-solved m n es ws positive,
+          let none = holds-said (opened m n ls) (adds ws) k (ap (λ (l : Ledger). enteredOf l (adds ws)) (sym reads) ∙ said) in
+          let two = own-least m q (accepted-yes (opened m n ls) (enters (adds ws)) none .1 .1 .0) in (
+            lineFrom m n (wordsIn ws),
+            refl,
+            gained-reads m n ls (adds ws) refl none s reads,
+            whole-solved q n words (omega (arith, two)),
           );
     }

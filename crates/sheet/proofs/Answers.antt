@@ -18,12 +18,13 @@ use Rattle.slices.specs.Over.{over}
 use Rattle.questions.specs.Questions.{asks, unlessRefused}
 use Rattle.questions.specs.Reply.{resultOf, memoryAfter}
 use Rattle.questions.proofs.Reply.{reply-result, reply-memory}
-use Rattle.equations.specs.Equation.{Equation, Shaped}
-use Rattle.equations.proofs.Answer.{start-found}
-use Rattle.equations.proofs.Promises.{no-start}
+use Rattle.equations.specs.Line.{Line, Moduli, ShapedLines}
+use Rattle.equations.proofs.LinePromises.{line-no-start}
 use Rattle.system.specs.declared.solving.Answer.{Answer}
-use Rattle.system.specs.Block.{answerOf}
-use Rattle.ledger.specs.Ledger.{Ledger, opened, isOpened, modulusOf, unknownsOf, equationsIn}
+use Rattle.system.specs.Block.{answerFrom}
+use Rattle.system.specs.Lines.{lineBlock}
+use Rattle.system.proofs.Lines.{line-start-found}
+use Rattle.ledger.specs.Ledger.{Ledger, opened, isOpened, modulusOf, unknownsOf, linesIn}
 use Rattle.ledger.specs.Block.{answerWords}
 use Rattle.ledger.specs.Calls.{answers, answersFromTape, queries}
 use Rattle.ledger.specs.Questions.{refusalOf}
@@ -74,7 +75,7 @@ module _ (l : Ledger) (old : List ℕ) where
       go false some h = let z : _≡_ {A = ℕ} 0 1 = cc in absurd (omega arith)
 
 module _ (l : Ledger) (w : ℕ) {k : ℕ} (is : k ≡ refusalOf l (queries (answersFromTape w))) {b : Answer} where
-  pub shown-wrote : refusalOf l (queries (answersFromTape w)) ≡ 0 → b ≡ answerOf (modulusOf l) (unknownsOf l) (equationsIn l)
+  pub shown-wrote : refusalOf l (queries (answersFromTape w)) ≡ 0 → b ≡ answerFrom (lineBlock (modulusOf l) (unknownsOf l) (linesIn l))
       → _≡_ {A = Shown} (record { refused = k; block = b }) (shownOf l w)
   unfolding shownOf
   shown-wrote accepted made = rw (is, made, accepted)
@@ -89,19 +90,19 @@ shown-refusal l w = either (refusalOf l (queries (answersFromTape w)))
   where
     either : (k : ℕ)
         → unlessRefused {A = Shown} (λ (j : ℕ). record { refused = j; block = noBlock }) k
-        (record { refused = 0; block = answerOf (modulusOf l) (unknownsOf l) (equationsIn l) }) .refused
+        (record { refused = 0; block = answerFrom (lineBlock (modulusOf l) (unknownsOf l) (linesIn l)) }) .refused
         ≡ k
     either zero = refl
     either (suc k) = rw (ne-eqb (suc k) 0 (λ e. omega arith))
 
-module _ (m n : ℕ) (es : List Equation) (pos : 0 < m) (shaped : Shaped n es) where
-  pub right-block : RightBlock m n es (answerWords (opened m n es))
+module _ (m n : ℕ) (ls : List Line) (pos : 0 < m) (moduli : Moduli m ls) (shaped : ShapedLines n ls) where
+  pub right-block : RightBlock m n ls (answerWords (opened m n ls))
   right-block =
       record {
-        none = Iff·trans (answer-head m n es pos shaped) (no-start m n es);
-        multipliers = λ no. answer-none m n es pos shaped (no-start m n es .1 no);
+        none = Iff·trans (answer-head m n ls pos moduli shaped) (line-no-start m n ls);
+        multipliers = λ no. answer-none m n ls pos moduli shaped (line-no-start m n ls .1 no);
         vectors = λ solvable.
-            ⊎-elim (λ h. absurd (solvable (no-start m n es .0 h)))
-            (λ found. (found .0, found .1, answer-some m n es (found .0) (found .1)))
-            (start-found m n es);
+            ⊎-elim (λ h. absurd (solvable (line-no-start m n ls .0 h)))
+            (λ found. (found .0, found .1, answer-some m n ls (found .0) (found .1)))
+            (line-start-found m n ls);
       }

@@ -15,7 +15,7 @@ use Rattle.slices.proofs.Over.{over-past, over-long}
 use Rattle.questions.specs.Questions.{asks, firstNo, unlessRefused}
 use Rattle.equations.specs.declared.Mark.{Mark}
 use Rattle.equations.specs.declared.Mark.the-variants.{Pass, Fail}
-use Rattle.equations.specs.Equation.{Equation}
+use Rattle.equations.specs.Line.{Line}
 use Rattle.equations.specs.Claim.{markNumber}
 use Rattle.equations.specs.Multipliers.{allBelow}
 use Rattle.words.specs.Words.{wordsIn}
@@ -57,9 +57,9 @@ tells-question true false k small = (((λ e. absurd (omega arith)), λ no. absur
 tells-question true true k small =
     (((λ e. absurd (omega arith)), λ no. absurd (no tt)), ((λ e. absurd (omega arith)), λ both. absurd (both .1 tt)))
 
-module _ (m n : ℕ) (es : List Equation) (ws : List ℕ) where
+module _ (m n : ℕ) (ls : List Line) (ws : List ℕ) where
   abbrev byte : ℕ
-  byte = markByte (markedOf (opened m n es) ws)
+  byte = markByte (markedOf (opened m n ls) ws)
 
   abbrev shape : Bool
   shape = isClaim n (wordsIn ws)
@@ -68,25 +68,25 @@ module _ (m n : ℕ) (es : List Equation) (ws : List ℕ) where
   below = allBelow m (entriesOf (wordsIn ws))
 
   abbrev number : ℕ
-  number = markNumber (claimMark (opened m n es) ws)
+  number = markNumber (claimMark (opened m n ls) ws)
 
   by-shape : byte ≡ cond shape (cond below number 106) 101
   unfolding markedOf refusalOf
-  by-shape = by-questions shape below (claimMark (opened m n es) ws)
+  by-shape = by-questions shape below (claimMark (opened m n ls) ws)
 
   tells : ((byte ≡ 101) ↔ (T shape → ⊥)) × ((byte ≡ 106) ↔ (T shape × (T below → ⊥)))
-  tells = rw by-shape (tells-question shape below number (mark-small (claimMark (opened m n es) ws)))
+  tells = rw by-shape (tells-question shape below number (mark-small (claimMark (opened m n ls) ws)))
 
   abbrev Right : Type 0
-  Right = DescribesSolutions m n es (claimFrom n (wordsIn ws))
+  Right = DescribesSolutions m n ls (claimFrom n (wordsIn ws))
 
   -- of a well-formed claim it is the number of the mark, which tells whether the claim is right
   tells-mark : 0 < m → WellFormed m n ws → ((byte ≡ 1) ↔ Right) × ((byte ≡ 0) ↔ (Right → ⊥))
   tells-mark pos well =
-      rw (marked-accepted (opened m n es) ws (well-accepted m n es ws well))
-      (mark-tells m n es pos ws well markNumber (λ same. omega arith))
+      rw (marked-accepted (opened m n ls) ws (well-accepted m n ls ws well))
+      (mark-tells m n ls pos ws well markNumber (λ same. omega arith))
 
-  right-byte : 0 < m → RightByte m n es ws byte
+  right-byte : 0 < m → RightByte m n ls ws byte
   right-byte pos =
       record {
         passed = λ well. tells-mark pos well .0;
@@ -96,13 +96,13 @@ module _ (m n : ℕ) (es : List Equation) (ws : List ℕ) where
       }
 
 pub right-strays : StrayWords
-right-strays m n es w ws stray = (stray-first n w stray ws, tells m n es (w ∷ []) .0 .1 (stray-shape n w stray))
+right-strays m n ls w ws stray = (stray-first n w stray ws, tells m n ls (w ∷ []) .0 .1 (stray-shape n w stray))
 
 -- ---- all bytes
 
-module _ (m n : ℕ) (es : List Equation) (pos : 0 < m) (ws old : List ℕ) where
+module _ (m n : ℕ) (ls : List Line) (pos : 0 < m) (ws old : List ℕ) where
   abbrev l : Ledger
-  l = opened m n es
+  l = opened m n ls
 
   abbrev claims : List (List ℕ)
   claims = claimsIn n ws
@@ -124,12 +124,12 @@ module _ (m n : ℕ) (es : List Equation) (pos : 0 < m) (ws old : List ℕ) wher
         ∙ List·getD-append (classBytes l ws) (drop (length (classBytes l ws)) old) 0 i (omega (arith, bytes-count l ws))
         ∙ map-at (λ (claim : List ℕ). markByte (markedOf l claim)) claims i [] at
 
-    right-marks : (s : Sheet) → ledgerOf s ≡ l → RightMarks s m n es (claimsIn n ws) old (marksAfter l ws old)
+    right-marks : (s : Sheet) → ledgerOf s ≡ l → RightMarks s m n ls (claimsIn n ws) old (marksAfter l ws old)
     right-marks s reads =
         record {
           singly = λ i at. singly i at ∙ ap (λ (k : Ledger). markByte (markedOf k (getD claims i []))) (sym reads);
           says = λ i at.
-              subst (RightByte m n es (getD claims i [])) (sym (singly i at)) (right-byte m n es (getD claims i []) pos);
+              subst (RightByte m n ls (getD claims i [])) (sym (singly i at)) (right-byte m n ls (getD claims i []) pos);
           size = ap length after ∙ over-long (classBytes l ws) old (omega (arith, bytes-count l ws, class-fits l ws old accepted));
           kept = λ i past.
               ap (λ (xs : List ℕ). getD xs i 0) after ∙ over-past (classBytes l ws) old i 0 (omega (arith, bytes-count l ws));
@@ -141,11 +141,11 @@ module _ (m n : ℕ) (es : List Equation) (pos : 0 < m) (ws old : List ℕ) wher
     λ fit. sym (class-marked l ws old (fit-accepted fit) refl refl .0),
   )
 
-  pub right-class : (s : Sheet) → ledgerOf s ≡ opened m n es → RightClass s m n es ws old
+  pub right-class : (s : Sheet) → ledgerOf s ≡ opened m n ls → RightClass s m n ls ws old
   right-class s reads =
       record {
         allowed = subst (λ (k : Ledger). (classedOf k ws old ≡ Claims (length claims)) ↔ Fit) (sym reads) allowed;
         accepted = λ is.
-            subst (λ (k : Ledger). RightMarks s m n es claims old (marksAfter k ws old)) (sym reads)
+            subst (λ (k : Ledger). RightMarks s m n ls claims old (marksAfter k ws old)) (sym reads)
             (right-marks (class-accepted l ws old (ap (λ (k : Ledger). classedOf k ws old) (sym reads) ∙ is)) s reads);
       }

@@ -2,48 +2,62 @@
 --   entry-refused                   the number of the question that turned the call away, and the sheet as it was
 --   open-is, open-accepted          an accepted opening has two words
 --   modulus-some                    an opened sheet has a modulus
---   gain-opened, gain-under, gain-width, gain-accepted   there is room for the line of an accepted equation, and it is written
---   line-long, line-seen, line-lies   which has the residues of its words,
---   typed-lies                        or is what the reader gives
+--   gain-fits, gain-accepted          there is room for the line of an accepted equation, it has residues mod its own modulus, and it is
+--                                     written
+--   add-opened                        an accepted equation is asked of an opened sheet
+--   line-long, line-own, line-lies    the residues are those of its words,
+--   typed-lies                        or what the reader gives
 --   strike-opened, strike-some, strike-place, strike-accepted   an accepted strike has an equation to strike
 use mathlib.Core.Path.{_≡_, refl, sym, ap, ap₂, subst, _∙_}
-use mathlib.Core.List.{List}
+use mathlib.Core.Bool.{true}
+use mathlib.Core.List.{List, [], _∷_}
 use mathlib.Core.Option.{Option}
-use Prim.Native.Nat.{ℕ, _+_, _-_, _<_}
+use Prim.Native.Nat.{ℕ, _+_, _-_, _<_, _≤_}
 use native.Mathlib.Omega.{arith}
 use borrow.Author.Tests.{eq-eqb, ne-eqb}
 use lib.Dec.{T}
 use lib.ListN.{length, take, getD, replicate}
+use lib.Seq.{take-all}
 use Rattle.slices.specs.Over.{over}
 use Rattle.slices.proofs.Over.{over-front}
+use Rattle.questions.specs.Questions.{allowedOwn}
 use Rattle.questions.proofs.Questions.{AllYes}
+use Rattle.equations.specs.Vectors.{Below}
 use Rattle.equations.specs.Equation.{Equation}
 use Rattle.equations.specs.Lines.{equationAt}
+use Rattle.equations.specs.Line.{Line}
 use Rattle.equations.proofs.Lines.{equation-front}
 use Rattle.equations.proofs.Truth.{true-of}
+use Rattle.equations.proofs.Vectors.{below-append}
 use Rattle.words.specs.Words.{wordsIn, numbersOf}
 use Rattle.words.specs.Signs.{residuesOf}
-use Rattle.words.proofs.Words.{numberOf, residueIn, numbers-count}
-use Rattle.words.proofs.Minus.{residues-count}
-use Rattle.words.proofs.Unpacked.{all-seen, part-seen}
+use Rattle.words.proofs.Words.{numberOf, numbers-count}
+use Rattle.words.proofs.Unpacked.{part-seen}
 use Rattle.grammar.specs.Tree.{Sides}
 use Rattle.grammar.specs.Texts.{equationIn}
-use Rattle.ledger.specs.Ledger.{unopened, isOpened, modulusOf, unknownsOf, equationsIn, mostEquations}
-use Rattle.ledger.specs.Shapes.{numberAt, isOpening, isEquation, equationFrom}
+use Rattle.ledger.specs.Ledger.{unopened, isOpened, modulusOf, unknownsOf, linesIn, mostEquations}
+use Rattle.ledger.specs.Shapes.{numberAt, isOpening, ownModulus, equationWords, lineFrom}
 use Rattle.ledger.specs.Calls.{Entry, opens, adds, strikes, enters}
 use Rattle.ledger.specs.Questions.{questions, refusalOf}
 use Rattle.ledger.specs.History.{Effect, gains, loses, effectOf, changed}
-use Rattle.ledger.proofs.Shapes.{opening-length, equation-length}
+use Rattle.ledger.proofs.Shapes.{opening-length}
 use Rattle.ledger.proofs.Questions.{opens-any, accepted-yes}
-use Rattle.ledger.proofs.Effects.{Gains, Allows, accepted-allows, enter-accepted, gains-counts, loses-counts}
+use Rattle.ledger.proofs.Effects.{Gains, Allows, residues-long, accepted-allows, enter-accepted, gains-counts, loses-counts}
 use Rattle.asking.specs.declared.Seen.{Seen}
 use Rattle.asking.specs.Sees.{Sees, openingRoom, equationRoom}
 use Rattle.sheet.specs.declared.Entered.the-variants.{Holds, Refused}
-use Rattle.sheet.specs.Record.{Sheet, unknownsIn, heldIn, sheetOf, room, ledgerOf, recordBy}
+use Rattle.sheet.specs.Record.{Sheet, modulusIn, unknownsIn, heldIn, sheetOf, room, ledgerOf, recordBy}
 use Rattle.sheet.specs.Calls.{enteredOf, sheetAfter}
 use Rattle.sheet.proofs.Reading.{reads-allowed}
-use Rattle.sheet.proofs.Opened.{seen-unknowns, seen-held}
+use Rattle.sheet.proofs.Opened.{seen-modulus, seen-unknowns, seen-held}
+use Rattle.sheet.proofs.Joined.{line-whole}
 use Rattle.sheet.proofs.Few.{unknowns-few}
+
+abbrev coefficientsOf : Equation → List ℕ
+coefficientsOf e = e .coefficients
+
+abbrev rightOf : Equation → ℕ
+rightOf e = e .right
 
 module _ (s : Sheet) (e : Entry) (number : ℕ) (is : number ≡ refusalOf (ledgerOf s) (enters e)) where
   pub entry-refused : (number ≡ 0 → ⊥) → (Refused number ≡ enteredOf (ledgerOf s) e) × (s ≡ sheetAfter s e)
@@ -52,7 +66,7 @@ module _ (s : Sheet) (e : Entry) (number : ℕ) (is : number ≡ refusalOf (ledg
 
   -- the numbers that its effect makes, or others that are the same
   entry-accepted : number ≡ 0 → (effect : Effect) → effectOf (ledgerOf s) e ≡ effect
-      → (k : ℕ) → length (equationsIn (changed (ledgerOf s) effect)) ≡ k → {new : Sheet} → new ≡ recordBy s effect
+      → (k : ℕ) → length (linesIn (changed (ledgerOf s) effect)) ≡ k → {new : Sheet} → new ≡ recordBy s effect
       → (Holds k ≡ enteredOf (ledgerOf s) e) × (new ≡ sheetAfter s e)
   unfolding sheetAfter enteredOf
   entry-accepted none effect same k counts made =
@@ -80,74 +94,106 @@ module _ (ws : List ℕ) (number : ℕ) (is : number ≡ refusalOf unopened (ent
     number-is : (i : ℕ) → i < 2 → getD new i 0 ≡ numberAt (wordsIn ws) i
     number-is i at = part-seen numberOf openingRoom ws old seen i (omega arith) (omega (arith, two, numbers-count ws))
 
-    pub open-accepted : (s : Sheet) {after : Sheet} → after ≡ sheetOf (getD new 0 0) (getD new 1 0) 0 (replicate room 0)
+    pub open-accepted : (s : Sheet) {after : Sheet} → after ≡ sheetOf (getD new 0 0) (getD new 1 0) 0 (replicate mostEquations 0) (replicate room 0)
         → (Holds 0 ≡ enteredOf (ledgerOf s) (opens ws)) × (after ≡ sheetAfter s (opens ws))
     open-accepted s made =
         entry-accepted s (opens ws) number (open-is s) none _ refl 0 refl
-        (made ∙ ap₂ (λ (m n : ℕ). sheetOf m n 0 (replicate room 0)) (number-is 0 (omega arith)) (number-is 1 (omega arith)))
+        (made ∙ ap₂ (λ (m n : ℕ). sheetOf m n 0 (replicate mostEquations 0) (replicate room 0)) (number-is 0 (omega arith)) (number-is 1 (omega arith)))
 
--- ---- an equation more
+-- ---- a line more
 
 -- what an opened sheet is seen to have is a modulus
-pub modulus-some : (s : Sheet) {seen : Seen} → Sees (ledgerOf s) seen → T (seen .opened) → 0 < seen .modulus
+pub modulus-some : (s : Sheet) {seen : Seen} → Sees (ledgerOf s) seen → T (seen .opened) → 2 ≤ seen .modulus
 modulus-some s sees is =
     omega (arith, sees .modulus, reads-allowed s (subst T (sees .opened) is) .modulus)
 
-module _ (s : Sheet) (e : Entry) (gained : Equation) (effect : effectOf (ledgerOf s) e ≡ gains gained) {seen : Seen}
+module _ (s : Sheet) (e : Entry) (gained : Line) (effect : effectOf (ledgerOf s) e ≡ gains gained) {seen : Seen}
     (sees : Sees (ledgerOf s) seen) (number : ℕ) (is : number ≡ refusalOf (ledgerOf s) (enters e)) (none : number ≡ 0) where
   allows : Gains (ledgerOf s) gained
   allows = subst (Allows (ledgerOf s)) effect (accepted-allows (ledgerOf s) e (sym is ∙ none))
 
-  pub gain-opened : T (isOpened (ledgerOf s))
-  gain-opened = allows .opened
+  is-opened : T (isOpened (ledgerOf s))
+  is-opened = allows .opened
+
+  opens-so : isOpened (ledgerOf s) ≡ true
+  opens-so = true-of (isOpened (ledgerOf s)) is-opened
 
   same-unknowns : seen .unknowns ≡ unknownsIn s
-  same-unknowns = seen-unknowns s (true-of (isOpened (ledgerOf s)) gain-opened) sees
+  same-unknowns = seen-unknowns s opens-so sees
 
-  pub gain-under : heldIn s < mostEquations
-  gain-under =
-      omega (arith, allows .under, sees .held, seen-held s (true-of (isOpened (ledgerOf s)) gain-opened) sees)
+  least : 2 ≤ modulusOf (ledgerOf s)
+  least = reads-allowed s is-opened .modulus
 
-  pub gain-width : {long : ℕ} → long ≡ seen .unknowns + 1 → long ≡ unknownsIn s + 1
-  gain-width is-long = is-long ∙ ap (λ (k : ℕ). k + 1) same-unknowns
+  -- the line lies in numbers
+  module _ (q : ℕ) (own : q ≡ gained .modulus) (line : List ℕ) (long : length line ≡ seen .unknowns + 1)
+      (lies : equationAt (seen .unknowns) line ≡ gained .equation) where
+    gain-own : T (allowedOwn (modulusIn s) q)
+    gain-own =
+        rw (own, ← sym (sees .modulus) ∙ seen-modulus s opens-so sees) (allows .own least)
 
-  -- the line of the equation is written
-  pub gain-accepted : (line : List ℕ) → equationAt (seen .unknowns) line ≡ gained
-      → {after : Sheet} → after ≡ recordBy s (gains (equationAt (unknownsIn s) line))
-      → (Holds (seen .held + 1) ≡ enteredOf (ledgerOf s) e) × (after ≡ sheetAfter s e)
-  gain-accepted line lies =
-      entry-accepted s e number is none (gains (equationAt (unknownsIn s) line))
-      (effect ∙ ap gains (sym lies ∙ ap (λ (n : ℕ). equationAt n line) same-unknowns)) (seen .held + 1)
-      (gains-counts (ledgerOf s) _ gain-opened ∙ ap (λ (k : ℕ). k + 1) (sym (sees .held)))
+    gain-below : Below q line
+    gain-below =
+        let whole = line-whole (seen .unknowns) line long in
+        subst (Below q) whole
+        (below-append q (take (seen .unknowns) line) (getD line (seen .unknowns) 0 ∷ [])
+        (rw (own, ap coefficientsOf lies) (allows .coefficients least)) (rw (own, ap rightOf lies) (allows .right least), tt))
+
+    -- what `with_line` asks for
+    pub gain-fits : (T (isOpened (ledgerOf s)) × (heldIn s < mostEquations) × (length line ≡ unknownsIn s + 1))
+        × (T (allowedOwn (modulusIn s) q) × Below q line)
+    gain-fits = (
+      (is-opened, omega (arith, allows .under, sees .held, seen-held s opens-so sees), long ∙ ap (λ (k : ℕ). k + 1) same-unknowns),
+      (gain-own, gain-below),
+    )
+
+    -- the line is written
+    pub gain-accepted : {after : Sheet}
+        → after ≡ recordBy s (gains (record { modulus = q; equation = equationAt (unknownsIn s) line }))
+        → (Holds (seen .held + 1) ≡ enteredOf (ledgerOf s) e) × (after ≡ sheetAfter s e)
+    gain-accepted =
+        entry-accepted s e number is none (gains (record { modulus = q; equation = equationAt (unknownsIn s) line }))
+        (effect ∙ ap gains (ap₂ {C = Line} (λ (p : ℕ) (x : Equation). record { modulus = p; equation = x }) (sym own)
+        (sym lies ∙ ap (λ (n : ℕ). equationAt n line) same-unknowns)))
+        (seen .held + 1) (gains-counts (ledgerOf s) _ is-opened ∙ ap (λ (k : ℕ). k + 1) (sym (sees .held)))
 
 -- ---- add
 
-module _ (s : Sheet) (ws : List ℕ) {seen : Seen} (sees : Sees (ledgerOf s) seen) (number : ℕ)
-    (is : number ≡ refusalOf (ledgerOf s) (enters (adds ws))) (none : number ≡ 0) (old : List ℕ) {new : List ℕ}
-    (front : T (seen .opened) → new ≡ over (take equationRoom (residuesOf (seen .modulus) (wordsIn ws))) old) where
+-- an accepted equation is asked of an opened sheet
+pub add-opened : (s : Sheet) (ws : List ℕ) {seen : Seen} → Sees (ledgerOf s) seen → (number : ℕ)
+    → number ≡ refusalOf (ledgerOf s) (enters (adds ws)) → number ≡ 0 → T (seen .opened)
+add-opened s ws sees number is none =
+    subst T (sym (sees .opened)) (accepted-yes (ledgerOf s) (enters (adds ws)) (sym is ∙ none) .0)
+
+module _ (s : Sheet) (ws : List ℕ) {seen : Seen} (sees : Sees (ledgerOf s) seen) (number q : ℕ)
+    (is : number ≡ refusalOf (ledgerOf s) (enters (adds ws))) (none : number ≡ 0)
+    (own : q ≡ ownModulus (seen .modulus) (wordsIn ws)) (old : List ℕ) {new : List ℕ}
+    (front : new ≡ over (take equationRoom (residuesOf q (equationWords (wordsIn ws)))) old) where
   asked : AllYes (questions (ledgerOf s) (enters (adds ws)))
   asked = accepted-yes (ledgerOf s) (enters (adds ws)) (sym is ∙ none)
 
   abbrev residues : List ℕ
-  residues = residuesOf (seen .modulus) (wordsIn ws)
+  residues = residuesOf q (equationWords (wordsIn ws))
 
-  pub line-long : length (residuesOf (seen .modulus) (wordsIn ws)) ≡ seen .unknowns + 1
-  line-long =
-      residues-count (seen .modulus) ws
-      ∙ equation-length (unknownsOf (ledgerOf s)) ws (true-of (isEquation (unknownsOf (ledgerOf s)) (wordsIn ws)) (asked .1 .0))
-      ∙ ap (λ (k : ℕ). k + 1) (sym (sees .unknowns))
+  residues-are : length residues ≡ seen .unknowns + 1
+  residues-are =
+      residues-long q (unknownsOf (ledgerOf s)) ws (asked .1 .0) ∙ ap (λ (k : ℕ). k + 1) (sym (sees .unknowns))
 
-  pub line-seen : take (seen .unknowns + 1) new ≡ residuesOf (seen .modulus) (wordsIn ws)
+  line-seen : take (seen .unknowns + 1) new ≡ residues
   line-seen =
       let few = unknowns-few s in
       over-front (seen .unknowns + 1) residues old
-      (all-seen (residueIn (seen .modulus)) equationRoom ws old (front (subst T (sym (sees .opened)) (asked .0)))
-      (omega (arith, line-long, residues-count (seen .modulus) ws, sees .unknowns))) line-long
+      (front ∙ ap (λ (xs : List ℕ). over xs old) (take-all equationRoom residues (omega (arith, residues-are, sees .unknowns)))) residues-are
+
+  pub line-long : length (take (seen .unknowns + 1) new) ≡ seen .unknowns + 1
+  line-long = ap length line-seen ∙ residues-are
+
+  pub line-own : q ≡ lineFrom (modulusOf (ledgerOf s)) (unknownsOf (ledgerOf s)) (wordsIn ws) .modulus
+  line-own = own ∙ ap (λ (m : ℕ). ownModulus m (wordsIn ws)) (sees .modulus)
 
   pub line-lies : equationAt (seen .unknowns) (take (seen .unknowns + 1) new)
-      ≡ equationFrom (modulusOf (ledgerOf s)) (unknownsOf (ledgerOf s)) (wordsIn ws)
+      ≡ lineFrom (modulusOf (ledgerOf s)) (unknownsOf (ledgerOf s)) (wordsIn ws) .equation
   line-lies =
-      ap₂ equationAt (sees .unknowns) (line-seen ∙ ap (λ (m : ℕ). residuesOf m (wordsIn ws)) (sees .modulus))
+      ap₂ equationAt (sees .unknowns) (line-seen ∙ ap (λ (p : ℕ). residuesOf p (equationWords (wordsIn ws))) line-own)
 
 -- ---- a typed equation
 
@@ -162,7 +208,7 @@ typed-lies s x {seen} sees line lies =
 
 module _ (s : Sheet) (k : ℕ) {seen : Seen} (sees : Sees (ledgerOf s) seen) (number : ℕ)
     (is : number ≡ refusalOf (ledgerOf s) (enters (strikes k))) (none : number ≡ 0) where
-  struck : Allows (ledgerOf s) (loses (length (equationsIn (ledgerOf s)) - 1))
+  struck : Allows (ledgerOf s) (loses (length (linesIn (ledgerOf s)) - 1))
   struck = accepted-allows (ledgerOf s) (strikes k) (sym is ∙ none)
 
   pub strike-opened : T (isOpened (ledgerOf s))

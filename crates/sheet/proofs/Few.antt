@@ -9,7 +9,7 @@ use native.Mathlib.Omega.{arith}
 use lib.Dec.{eqb}
 use lib.ListN.{length}
 use Rattle.equations.proofs.Truth.{true-or-false}
-use Rattle.ledger.specs.Ledger.{Ledger, unknownsOf, equationsIn, mostEquations, mostUnknowns}
+use Rattle.ledger.specs.Ledger.{Ledger, unknownsOf, linesIn, mostEquations, mostUnknowns}
 use Rattle.ledger.specs.Calls.{Entry, enters}
 use Rattle.ledger.specs.Questions.{refusalOf}
 use Rattle.ledger.specs.History.{enter}
@@ -26,10 +26,10 @@ unknowns-few s =
     ⊎-elim (λ is. rw (ledger-opened s is) (readable-fit s is .unknowns)) (λ no. rw (ledger-unopened s no) (omega arith))
     (true-or-false (readable s))
 
-equations-few : (s : Sheet) → length (equationsIn (ledgerOf s)) ≤ mostEquations
+equations-few : (s : Sheet) → length (linesIn (ledgerOf s)) ≤ mostEquations
 equations-few s =
     ⊎-elim (λ is. omega (arith, held-counts s is, readable-fit s is .equations))
-    (λ no. omega (arith, ap (λ (l : Ledger). length (equationsIn l)) (ledger-unopened s no))) (true-or-false (readable s))
+    (λ no. omega (arith, ap (λ (l : Ledger). length (linesIn l)) (ledger-unopened s no))) (true-or-false (readable s))
 
 held-or-none : (b : Bool) (k r : ℕ) → heldBy (cond b (Holds k) (Refused r)) ≤ k
 held-or-none true k r = omega arith
@@ -39,6 +39,6 @@ pub held-few : (s : Sheet) (e : Entry) {entered : Entered} → entered ≡ enter
 unfolding enteredOf
 held-few s e is =
     let few = equations-few (sheetAfter s e) in
-    let same = ap (λ (l : Ledger). length (equationsIn l)) (reads-after s e) in
-    let said = held-or-none (eqb (refusalOf (ledgerOf s) (enters e)) 0) (length (equationsIn (enter (ledgerOf s) (enters e)))) (refusalOf (ledgerOf s) (enters e)) in
+    let same = ap (λ (l : Ledger). length (linesIn l)) (reads-after s e) in
+    let said = held-or-none (eqb (refusalOf (ledgerOf s) (enters e)) 0) (length (linesIn (enter (ledgerOf s) (enters e)))) (refusalOf (ledgerOf s) (enters e)) in
     rw is (omega arith)

@@ -3,9 +3,10 @@
 --   equations-drop     those behind the first c lines
 --   equation-line      an equation is read off its own line
 --   line-whole         and a line is its coefficients and its right side
+--   row-map            a function of each number of a line
 --   drop-take          what lies behind a of the first b numbers
 use mathlib.Core.Path.{_≡_, sym, ap, ap₂, _∙_}
-use mathlib.Core.List.{List, [], _∷_, _++_}
+use mathlib.Core.List.{List, [], _∷_, _++_, map, map-append}
 use Prim.Native.Nat.{ℕ, zero, suc, _+_, _-_, _*_, _≤_, _<_}
 use native.Mathlib.Omega.{arith}
 use lib.ListN.{length, take, drop, getD, length-append, length-drop, take-append-drop, List·getD-append}
@@ -48,6 +49,9 @@ equation-line n e h =
 
 pub line-whole : (n : ℕ) (xs : List ℕ) → length xs ≡ n + 1 → take n xs ++ (getD xs n 0 ∷ []) ≡ xs
 line-whole n xs long = sym (take-suc xs n 0 (omega arith)) ∙ take-all (suc n) xs (omega arith)
+
+pub row-map : (f : ℕ → ℕ) (n : ℕ) (xs : List ℕ) → length xs ≡ n + 1 → map f (take n xs) ++ (f (getD xs n 0) ∷ []) ≡ map f xs
+row-map f n xs long = sym (map-append f (take n xs) (getD xs n 0 ∷ [])) ∙ ap (map f) (line-whole n xs long)
 
 pub drop-take : (a b : ℕ) (xs : List ℕ) → drop a (take b xs) ≡ take (b - a) (drop a xs)
 drop-take zero b xs = let same : b ≡ b - 0 = omega arith in ap (λ (k : ℕ). take k xs) same

@@ -6,6 +6,7 @@ pub mod Joined
 pub mod Records
 pub mod Turns
 pub mod Entering
+pub mod Written
 pub mod Cells
 pub mod Solved
 pub mod MarkGiven

@@ -5,7 +5,7 @@
 --   mark-claimed           and its entries, which may be marked
 --   marked-as              and so they are,
 --   explained-as           or explained
-use mathlib.Core.Path.{_≡_, refl, sym, ap, _∙_}
+use mathlib.Core.Path.{_≡_, sym, ap, ap₂, _∙_}
 use mathlib.Core.Bool.{Bool, cond}
 use mathlib.Core.List.{List, [], _∷_, _++_}
 use Prim.Native.Nat.{ℕ, suc, _+_, _-_, _*_, _≤_}
@@ -18,14 +18,22 @@ use lib.Seq.{take-at}
 use Rattle.slices.specs.Over.{over}
 use Rattle.equations.specs.declared.Mark.the-variants.{Pass, Fail}
 use Rattle.equations.specs.Equation.{Equation}
-use Rattle.equations.specs.Claim.{passes, markOf}
+use Rattle.equations.specs.Claim.{Claim, passes}
+use Rattle.equations.specs.Reasons.{reasonOf}
+use Rattle.equations.specs.Line.{linePasses, scaled}
+use Rattle.equations.specs.LineReasons.{lineReason}
+use Rattle.equations.proofs.LineAnswer.{line-passes}
+use Rattle.equations.proofs.LineReasons.{line-reason}
 use Rattle.system.specs.declared.explaining.Finding.{Finding}
 use Rattle.system.specs.Claims.{Claimed, claimOf}
 use Rattle.system.specs.Reasons.{shownWith, findingOf}
+use Rattle.system.specs.Lines.{lineShown}
+use Rattle.system.proofs.Lines.{line-shown}
 use Rattle.words.specs.Words.{wordsIn, numbersOf}
 use Rattle.words.proofs.Words.{numberOf, numbers-count}
 use Rattle.words.proofs.Unpacked.{all-seen, part-seen}
-use Rattle.ledger.specs.Ledger.{Ledger, isOpened, modulusOf, unknownsOf, equationsIn, mostUnknowns}
+use Rattle.ledger.specs.Ledger.{Ledger, isOpened, modulusOf, unknownsOf, linesIn, mostUnknowns}
+use Rattle.ledger.specs.Allowed.{Allowed}
 use Rattle.ledger.specs.Shapes.{numberAt, isClaim, entriesOf}
 use Rattle.ledger.specs.Block.{longestBlock}
 use Rattle.ledger.specs.Calls.{marks, queries}
@@ -88,22 +96,47 @@ module _ (l : Ledger) (ws : List ℕ) (accepted : refusalOf l (queries (marks ws
           rw (entries-are, sees .modulus, sees .unknowns)
           (claimed (unknownsOf l) ws shape (modulusOf l) (accepted-yes l (queries (marks ws)) accepted .1 .1 .0))
 
-      pub marked-as : (es : List Equation) → es ≡ equationsIn l → (result : Bool)
-          → result ≡ passes (see .modulus) (see .unknowns) es (claimOf (see .unknowns) (take (h * see .unknowns + 1 - 1) (drop 1 new)))
-          → Gets (cond result Pass Fail) ≡ markedOf l ws
-      unfolding markedOf markOf
-      marked-as es same-es result is =
-          let decided : result ≡ passes (modulusOf l) (unknownsOf l) (equationsIn l) (claimOf (unknownsOf l) (entriesOf (wordsIn ws))) =
-          is ∙ rw (entries-are, same-es, sees .modulus, sees .unknowns) in
-          rw (accepted, decided)
+      -- es are the lines, with both sides times m/q
+      module _ (allowed : Allowed (modulusOf l) (unknownsOf l) (linesIn l)) (es : List Equation)
+          (same-es : es ≡ scaled (modulusOf l) (linesIn l)) where
+        abbrev m : ℕ
+        m = modulusOf l
 
-      pub explained-as : (es : List Equation) → es ≡ equationsIn l → (found : Finding) (before : List ℕ) {shown : List ℕ}
-          → found ≡ findingOf (see .modulus) (see .unknowns) es (claimOf (see .unknowns) (take (h * see .unknowns + 1 - 1) (drop 1 new)))
-          → shown ≡ over (shownWith (see .modulus) (see .unknowns) es (claimOf (see .unknowns) (take (h * see .unknowns + 1 - 1) (drop 1 new)))) before
-          → (Gives (found .reason) (found .len) ≡ explainedOf l ws) × (shown ≡ over (explainedNumbers l ws) before)
-      unfolding explainedOf explainedNumbers findingOf
-      explained-as es same-es found before is written =
-          let same : findingOf (see .modulus) (see .unknowns) es (claimOf (see .unknowns) (take (h * see .unknowns + 1 - 1) (drop 1 new)))
-          ≡ findingOf (modulusOf l) (unknownsOf l) (equationsIn l) (claimOf (unknownsOf l) (entriesOf (wordsIn ws))) =
-          rw (entries-are, same-es, sees .modulus, sees .unknowns) in
-          rw (accepted, is ∙ same) (refl, written ∙ rw (entries-are, same-es, sees .modulus, sees .unknowns))
+        abbrev n : ℕ
+        n = unknownsOf l
+
+        abbrev read : Claim
+        read = claimOf (unknownsOf l) (entriesOf (wordsIn ws))
+
+        pub marked-as : (result : Bool)
+            → result ≡ passes (see .modulus) (see .unknowns) es (claimOf (see .unknowns) (take (h * see .unknowns + 1 - 1) (drop 1 new)))
+            → Gets (cond result Pass Fail) ≡ markedOf l ws
+        unfolding markedOf
+        marked-as result is =
+            let decided : result ≡ linePasses m n (linesIn l) read =
+            is
+            ∙ (rw (entries-are, same-es, sees .modulus, sees .unknowns)
+            (sym (line-passes m n (omega (arith, allowed .modulus)) (linesIn l) (allowed .moduli) read))) in
+            rw (accepted, decided)
+
+        found-reason : reasonOf m n (scaled m (linesIn l)) read ≡ lineReason m n (linesIn l) read
+        found-reason = sym (line-reason m (omega (arith, allowed .modulus)) (linesIn l) (allowed .moduli) n read)
+
+        found-shown : shownWith m n (scaled m (linesIn l)) read ≡ lineShown m n (linesIn l) read
+        found-shown = sym (line-shown m n (omega (arith, allowed .modulus)) (linesIn l) (allowed .moduli) read)
+
+        pub explained-as : (found : Finding) (before : List ℕ) {shown : List ℕ}
+            → found ≡ findingOf (see .modulus) (see .unknowns) es (claimOf (see .unknowns) (take (h * see .unknowns + 1 - 1) (drop 1 new)))
+            → shown ≡ over (shownWith (see .modulus) (see .unknowns) es (claimOf (see .unknowns) (take (h * see .unknowns + 1 - 1) (drop 1 new)))) before
+            → (Gives (found .reason) (found .len) ≡ explainedOf l ws) × (shown ≡ over (explainedNumbers l ws) before)
+        unfolding explainedOf explainedNumbers findingOf
+        explained-as found before {shown} is written =
+            let same : found ≡ findingOf m n (scaled m (linesIn l)) read =
+            is ∙ rw (entries-are, same-es, sees .modulus, sees .unknowns) in
+            let lies : shown ≡ over (shownWith m n (scaled m (linesIn l)) read) before =
+            written ∙ rw (entries-are, same-es, sees .modulus, sees .unknowns) in
+            rw accepted (
+              ap (λ (f : Finding). Gives (f .reason) (f .len)) same
+                  ∙ ap₂ Gives found-reason (ap length found-shown),
+              lies ∙ ap (λ (xs : List ℕ). over xs before) found-shown,
+            )

@@ -3,7 +3,7 @@
 --   mark-accepted, mark-refused   and what is said tells whether it is accepted, or why not
 --   well-accepted      a well-formed claim is accepted
 --   mark-decides       what is a function of its mark tells whether it passes,
---   mark-tells         and so whether it describes the solutions of the ledger's equations
+--   mark-tells         and so whether it describes the solutions of the ledger's lines
 --   right-mark         so it is marked
 --   own-mark           an answer's own words, where there is a solution, are passed
 use mathlib.Core.Path.{_≡_, refl, ap, _∙_}
@@ -17,13 +17,11 @@ use lib.Dec.{T}
 use Rattle.questions.proofs.Questions.{unless-either}
 use Rattle.equations.specs.declared.Mark.{Mark}
 use Rattle.equations.specs.declared.Mark.the-variants.{Pass, Fail}
-use Rattle.equations.specs.Equation.{Equation}
-use Rattle.equations.specs.Answer.{startOf}
-use Rattle.equations.specs.Claim.{passes, markOf}
+use Rattle.equations.specs.Line.{Line, Moduli, lineStart, linePasses}
 use Rattle.equations.specs.Multipliers.{allBelow}
 use Rattle.equations.proofs.Truth.{true-of, cond-tells}
-use Rattle.equations.proofs.Claim.{passes-described}
-use Rattle.equations.proofs.Promises.{own-answer}
+use Rattle.equations.proofs.LineAnswer.{line-passes-described}
+use Rattle.equations.proofs.LinePromises.{line-own-answer}
 use Rattle.system.proofs.Claims.{claim-described}
 use Rattle.words.specs.Words.{numbersOfAKind, wordsIn}
 use Rattle.ledger.specs.Ledger.{Ledger, opened}
@@ -72,45 +70,43 @@ by-test : {A : Type 0} (f : Mark → A) (b : Bool) → f (cond b Pass Fail) ≡ 
 by-test f true = refl
 by-test f false = refl
 
-module _ (m n : ℕ) (es : List Equation) where
-  pub well-accepted : (ws : List ℕ) → WellFormed m n ws → refusalOf (opened m n es) (queries (marks ws)) ≡ 0
+module _ (m n : ℕ) (ls : List Line) where
+  pub well-accepted : (ws : List ℕ) → WellFormed m n ws → refusalOf (opened m n ls) (queries (marks ws)) ≡ 0
   well-accepted ws well =
-      marks-accepted (opened m n es) refl ws (true-of (isClaim n (wordsIn ws)) (well .0))
+      marks-accepted (opened m n ls) refl ws (true-of (isClaim n (wordsIn ws)) (well .0))
       (true-of (allBelow m (entriesOf (wordsIn ws))) (well .1))
 
   well-described : 0 < m → (ws : List ℕ) → WellFormed m n ws
-      → T (passes m n es (claimFrom n (wordsIn ws))) ↔ DescribesSolutions m n es (claimFrom n (wordsIn ws))
+      → T (linePasses m n ls (claimFrom n (wordsIn ws))) ↔ DescribesSolutions m n ls (claimFrom n (wordsIn ws))
   well-described pos ws well =
-      passes-described m n es (claimFrom n (wordsIn ws))
+      line-passes-described m n ls (claimFrom n (wordsIn ws))
       (claim-described m n (entriesOf (wordsIn ws)) pos (claimed n ws (well .0) m (well .1)))
 
   -- whatever tells the two marks apart tells what decides whether the claim passes
-  pub mark-decides : (ws : List ℕ) {P : Type 0} → T (passes m n es (claimFrom n (wordsIn ws))) ↔ P → {A : Type 0} (f : Mark → A)
+  pub mark-decides : (ws : List ℕ) {P : Type 0} → T (linePasses m n ls (claimFrom n (wordsIn ws))) ↔ P → {A : Type 0} (f : Mark → A)
       → (f Pass ≡ f Fail → ⊥)
-      → ((f (claimMark (opened m n es) ws) ≡ f Pass) ↔ P) × ((f (claimMark (opened m n es) ws) ≡ f Fail) ↔ (P → ⊥))
-  unfolding markOf
+      → ((f (claimMark (opened m n ls) ws) ≡ f Pass) ↔ P) × ((f (claimMark (opened m n ls) ws) ≡ f Fail) ↔ (P → ⊥))
   mark-decides ws same f apart =
-      rw (by-test f (passes m n es (claimFrom n (wordsIn ws))))
-      (cond-tells (f Pass) (f Fail) apart (passes m n es (claimFrom n (wordsIn ws))) same)
+      rw (by-test f (linePasses m n ls (claimFrom n (wordsIn ws))))
+      (cond-tells (f Pass) (f Fail) apart (linePasses m n ls (claimFrom n (wordsIn ws))) same)
 
   pub mark-tells : 0 < m → (ws : List ℕ) → WellFormed m n ws → {A : Type 0} (f : Mark → A) → (f Pass ≡ f Fail → ⊥)
-      → ((f (claimMark (opened m n es) ws) ≡ f Pass) ↔ DescribesSolutions m n es (claimFrom n (wordsIn ws)))
-      × ((f (claimMark (opened m n es) ws) ≡ f Fail) ↔ (DescribesSolutions m n es (claimFrom n (wordsIn ws)) → ⊥))
+      → ((f (claimMark (opened m n ls) ws) ≡ f Pass) ↔ DescribesSolutions m n ls (claimFrom n (wordsIn ws)))
+      × ((f (claimMark (opened m n ls) ws) ≡ f Fail) ↔ (DescribesSolutions m n ls (claimFrom n (wordsIn ws)) → ⊥))
   mark-tells pos ws well = mark-decides ws (well-described pos ws well)
 
   pub right-mark : 0 < m → (ws : List ℕ) → WellFormed m n ws
-      → RightMark m n es (claimFrom n (wordsIn ws)) (markedOf (opened m n es) ws)
+      → RightMark m n ls (claimFrom n (wordsIn ws)) (markedOf (opened m n ls) ws)
   right-mark pos ws well =
       let both = mark-tells pos ws well Gets pass-or-fail in
-      rw (marked-accepted (opened m n es) ws (well-accepted ws well)) (record { passed = both .0; failed = both .1 })
+      rw (marked-accepted (opened m n ls) ws (well-accepted ws well)) (record { passed = both .0; failed = both .1 })
 
-  pub own-mark : 0 < m → m ≤ numbersOfAKind → 0 < n → n ≤ 16 → (c : List ℕ) → startOf m n es ≡ some c
-      → markedOf (opened m n es) (answerWords (opened m n es)) ≡ Gets Pass
-  unfolding markOf
-  own-mark pos largest one unknowns c start =
-      marked-accepted (opened m n es) (answerWords (opened m n es))
-      (well-accepted (answerWords (opened m n es))
-      (own-shape m n es largest c start unknowns, own-entries m n es largest c start))
+  pub own-mark : 0 < m → Moduli m ls → m ≤ numbersOfAKind → 0 < n → n ≤ 16 → (c : List ℕ) → lineStart m n ls ≡ some c
+      → markedOf (opened m n ls) (answerWords (opened m n ls)) ≡ Gets Pass
+  own-mark pos moduli largest one unknowns c start =
+      marked-accepted (opened m n ls) (answerWords (opened m n ls))
+      (well-accepted (answerWords (opened m n ls))
+      (own-shape m n pos ls moduli largest c start unknowns, own-entries m n pos ls moduli largest c start))
       ∙ ap (λ (b : Bool). Gets (cond b Pass Fail))
-      (ap (passes m n es) (own-claim m n es largest c start one)
-      ∙ true-of _ (own-answer m n es pos .0 c start))
+      (ap (linePasses m n ls) (own-claim m n pos ls moduli largest c start one)
+      ∙ true-of _ (line-own-answer m n ls pos moduli .0 c start))

@@ -22,11 +22,11 @@ use lib.Dec.{T, eqb→eq}
 use Rattle.slices.specs.Over.{over}
 use Rattle.slices.proofs.Over.{over-front}
 use Rattle.equations.specs.declared.Mark.the-variants.{Pass}
-use Rattle.equations.specs.Equation.{Equation}
-use Rattle.equations.proofs.Answer.{start-found}
-use Rattle.equations.proofs.Promises.{no-start}
+use Rattle.equations.specs.Line.{Line}
+use Rattle.equations.proofs.LinePromises.{line-no-start}
+use Rattle.system.proofs.Lines.{line-start-found}
 use Rattle.words.specs.Words.{wordOf, wordsIn}
-use Rattle.ledger.specs.Ledger.{Ledger, opened, isOpened, modulusOf, unknownsOf, equationsIn}
+use Rattle.ledger.specs.Ledger.{Ledger, opened, isOpened, modulusOf, unknownsOf, linesIn}
 use Rattle.ledger.specs.Allowed.{Allowed}
 use Rattle.ledger.specs.Shapes.{claimFrom}
 use Rattle.ledger.specs.Block.{answerWords}
@@ -56,54 +56,54 @@ use Rattle.sheet.proofs.Typed.{right-typing}
 
 -- ---- demand 3
 
-module _ (s : Sheet) (m n : ℕ) (es : List Equation) (reads : ledgerOf s ≡ opened m n es) where
-  allowed : Allowed m n es
+module _ (s : Sheet) (m n : ℕ) (ls : List Line) (reads : ledgerOf s ≡ opened m n ls) where
+  allowed : Allowed m n ls
   allowed =
-      subst (λ (l : Ledger). Allowed (modulusOf l) (unknownsOf l) (equationsIn l)) reads
+      subst (λ (l : Ledger). Allowed (modulusOf l) (unknownsOf l) (linesIn l)) reads
       (reads-allowed s (subst (λ (l : Ledger). T (isOpened l)) (sym reads) tt))
 
   positive : 0 < m
   positive = omega (arith, allowed .modulus)
 
   abbrev block : List ℕ
-  block = answerWords (opened m n es)
+  block = answerWords (opened m n ls)
 
   wrote : (old : List ℕ) → length block ≤ length old
       → (answeredOf (ledgerOf s) old ≡ Wrote (length block)) × (bufferAfter (ledgerOf s) old ≡ over block old)
   wrote old long =
-      let w = answered-wrote (opened m n es) old refl long in
+      let w = answered-wrote (opened m n ls) old refl long in
       subst (λ (l : Ledger). (answeredOf l old ≡ Wrote (length block)) × (bufferAfter l old ≡ over block old)) (sym reads)
       (sym (w .0), sym (w .1))
 
-  shows : (w : ℕ) → wordOf w .number ≡ 0 → Shows block (shownOf (opened m n es) w)
+  shows : (w : ℕ) → wordOf w .number ≡ 0 → Shows block (shownOf (opened m n ls) w)
   shows w none =
-      let accepted = answers-word-plain (opened m n es) refl w none in (
-        shown-refusal (opened m n es) w ∙ accepted,
-        solved-words (opened m n es) (shownOf (opened m n es) w .block) (shown-block (opened m n es) w accepted) tt,
+      let accepted = answers-word-plain (opened m n ls) refl w none in (
+        shown-refusal (opened m n ls) w ∙ accepted,
+        solved-words (opened m n ls) allowed (shownOf (opened m n ls) w .block) (shown-block (opened m n ls) w accepted) tt,
       )
 
-  right-sheet : RightSheet s m n es
+  right-sheet : RightSheet s m n ls
   right-sheet =
       record {
         allowed = allowed;
         block = block;
-        right = right-block m n es positive (allowed .shaped);
-        fits = answer-fits m n es positive (allowed .shaped) (allowed .equations) (allowed .unknowns);
+        right = right-block m n ls positive (allowed .moduli) (allowed .shaped);
+        fits = answer-fits m n ls positive (allowed .moduli) (allowed .shaped) (allowed .equations) (allowed .unknowns);
         answer = wrote;
-        short = λ old h. ap (λ (l : Ledger). answeredOf l old) reads ∙ sym (answered-short (opened m n es) old refl h .0);
+        short = λ old h. ap (λ (l : Ledger). answeredOf l old) reads ∙ sym (answered-short (opened m n ls) old refl h .0);
         answerFromTape = λ w none.
             subst (λ (l : Ledger). Shows block (shownOf l w)) (sym reads) (shows w (eqb→eq (wordOf w .number) 0 none));
         mark = λ ws well.
-            subst (λ (l : Ledger). RightMark m n es (claimFrom n (wordsIn ws)) (markedOf l ws)) (sym reads)
-            (right-mark m n es positive ws well);
+            subst (λ (l : Ledger). RightMark m n ls (claimFrom n (wordsIn ws)) (markedOf l ws)) (sym reads)
+            (right-mark m n ls positive ws well);
       }
 
-  own-passes : (NothingSolves m n es → ⊥) → markedOf (opened m n es) block ≡ Gets Pass
+  own-passes : (NothingSolves m n ls → ⊥) → markedOf (opened m n ls) block ≡ Gets Pass
   own-passes solvable =
-      ⊎-elim (λ h. absurd (solvable (no-start m n es .0 h)))
-      (λ found. own-mark m n es positive (omega (arith, allowed .largest)) (omega (arith, allowed .hasUnknowns))
+      ⊎-elim (λ h. absurd (solvable (line-no-start m n ls .0 h)))
+      (λ found. own-mark m n ls positive (allowed .moduli) (omega (arith, allowed .largest)) (omega (arith, allowed .hasUnknowns))
       (allowed .unknowns) (found .0) (found .1))
-      (start-found m n es)
+      (line-start-found m n ls)
 
 pub right-always : RightAlways
 right-always = right-sheet
@@ -115,38 +115,38 @@ demand3 calls (before, ws, rest, is, accepted) =
     record {
       m = o .0;
       n = o .1;
-      es = o .2;
+      ls = o .2;
       holds = o .3;
       right = right-sheet (after calls) (o .0) (o .1) (o .2) (after-reads calls ∙ o .3);
     }
 
 pub added-always : AddedAlways
-added-always s m n es ws reads = right-adding s m n es ws reads (positive s m n es reads)
+added-always s m n ls ws reads = right-adding s m n ls ws reads
 
 pub typed-always : TypedAlways
-typed-always s m n es text reads = right-typing s m n es text reads (positive s m n es reads)
+typed-always s m n ls text reads = right-typing s m n ls text reads (positive s m n ls reads)
 
 pub reason-always : ReasonAlways
-reason-always s m n es ws reads well = right-reason m n es ws (allowed s m n es reads) well s reads
+reason-always s m n ls ws reads well = right-reason m n ls ws (allowed s m n ls reads) well s reads
 
 pub same-refusals : SameRefusals
 same-refusals s = same-refusal (ledgerOf s)
 
 pub class-always : ClassAlways
-class-always s m n es ws old reads = right-class m n es (positive s m n es reads) ws old s reads
+class-always s m n ls ws old reads = right-class m n ls (positive s m n ls reads) ws old s reads
 
 pub stray-words : StrayWords
 stray-words = right-strays
 
 pub own-block-passes : OwnBlockPasses
-own-block-passes calls m n es old holds solvable h =
+own-block-passes calls m n ls old holds solvable h =
     let reads = after-reads calls ∙ holds in
-    let block = answerWords (opened m n es) in
+    let block = answerWords (opened m n ls) in
     let size : length (answerWords (ledger calls)) ≡ length block = ap (λ (l : Ledger). length (answerWords l)) holds in
     ap₂ markedOf reads
     (over-front (length (answerWords (ledger calls))) block old
-    (wrote (after calls) m n es reads old (omega (arith, size, h)) .1) (sym size))
-    ∙ own-passes (after calls) m n es reads solvable
+    (wrote (after calls) m n ls reads old (omega (arith, size, h)) .1) (sym size))
+    ∙ own-passes (after calls) m n ls reads solvable
 
 -- ---- what the questions decide
 

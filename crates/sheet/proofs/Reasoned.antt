@@ -22,12 +22,12 @@ use Rattle.questions.proofs.Questions.{unless-either}
 use Rattle.questions.proofs.Reply.{reply-result, reply-memory}
 use Rattle.equations.specs.declared.Reason.{Reason}
 use Rattle.equations.specs.Vectors.{Below}
-use Rattle.equations.specs.Reasons.{Says}
+use Rattle.equations.specs.LineReasons.{LineSays}
 use Rattle.equations.proofs.Vectors.{below-mono}
 use Rattle.system.proofs.Claims.{claim-formed}
-use Rattle.system.proofs.Reasons.{true-reason, says-residues, says-few}
+use Rattle.system.proofs.Lines.{true-line-reason, line-says-residues, line-says-few}
 use Rattle.words.specs.Words.{numbersOfAKind, word, wordsIn, wordsOf}
-use Rattle.ledger.specs.Ledger.{Ledger, modulusOf, unknownsOf, equationsIn}
+use Rattle.ledger.specs.Ledger.{Ledger, modulusOf, unknownsOf, linesIn}
 use Rattle.ledger.specs.Allowed.{Allowed}
 use Rattle.ledger.specs.Shapes.{entriesOf, claimFrom}
 use Rattle.ledger.specs.Marking.{claimReason, reasonNumbers, shownKind, reasonWords}
@@ -82,24 +82,24 @@ module _ (l : Ledger) (ws : List ℕ) where
     unfolding explainedNumbers
     numbers-are = rw accepted
 
-    module _ (allowed : Allowed (modulusOf l) (unknownsOf l) (equationsIn l)) where
-      pub reason-says : Says (modulusOf l) (unknownsOf l) (equationsIn l) (claimFrom (unknownsOf l) (wordsIn ws)) (claimReason l ws)
+    module _ (allowed : Allowed (modulusOf l) (unknownsOf l) (linesIn l)) where
+      pub reason-says : LineSays (modulusOf l) (unknownsOf l) (linesIn l) (claimFrom (unknownsOf l) (wordsIn ws)) (claimReason l ws)
           (reasonNumbers l ws)
       reason-says =
           let yes = accepted-yes l (queries (marks ws)) accepted in
-          true-reason (modulusOf l) (unknownsOf l) (equationsIn l) (claimFrom (unknownsOf l) (wordsIn ws)) (omega (arith, allowed .modulus))
-          (allowed .shaped)
+          true-line-reason (modulusOf l) (unknownsOf l) (linesIn l) (claimFrom (unknownsOf l) (wordsIn ws)) (omega (arith, allowed .modulus))
+          (allowed .moduli) (allowed .shaped)
           (claim-formed (modulusOf l) (unknownsOf l) (entriesOf (wordsIn ws))
           (claimed (unknownsOf l) ws (yes .1 .0) (modulusOf l) (yes .1 .1 .0)))
 
       pub numbers-below : Below numbersOfAKind (reasonNumbers l ws)
       numbers-below =
           below-mono (modulusOf l) numbersOfAKind (reasonNumbers l ws) (omega (arith, allowed .largest))
-          (says-residues (modulusOf l) (unknownsOf l) (equationsIn l) _ (claimReason l ws) (reasonNumbers l ws) reason-says)
+          (line-says-residues (modulusOf l) (unknownsOf l) (linesIn l) _ (claimReason l ws) (reasonNumbers l ws) reason-says)
 
       pub numbers-few : length (reasonNumbers l ws) ≤ 16
       numbers-few =
-          says-few 16 (modulusOf l) (unknownsOf l) (equationsIn l) _ (claimReason l ws) (reasonNumbers l ws) (allowed .unknowns)
+          line-says-few 16 (modulusOf l) (unknownsOf l) (linesIn l) _ (claimReason l ws) (reasonNumbers l ws) (allowed .unknowns)
           (allowed .equations) reason-says
 
 -- ---- what is written

@@ -11,9 +11,9 @@ use Rattle.slices.specs.Over.{over}
 use Rattle.equations.specs.declared.Mark.the-variants.{Pass, Fail}
 use Rattle.equations.specs.declared.Reason.{Reason}
 use Rattle.equations.specs.declared.Reason.the-variants.{Right}
-use Rattle.equations.specs.Equation.{Equation}
+use Rattle.equations.specs.Line.{Line}
 use Rattle.system.proofs.Claims.{claim-formed}
-use Rattle.system.proofs.Reasons.{no-reason}
+use Rattle.system.proofs.Lines.{no-line-reason}
 use Rattle.words.specs.Words.{word, wordsIn, wordsOf}
 use Rattle.ledger.specs.Ledger.{Ledger, opened}
 use Rattle.ledger.specs.Allowed.{Allowed}
@@ -30,9 +30,9 @@ use Rattle.sheet.specs.Promises.{WellFormed, RightReason}
 use Rattle.sheet.proofs.Marks.{pass-or-fail, marked-accepted, mark-refused, well-accepted, mark-decides}
 use Rattle.sheet.proofs.Reasoned.{reason-says, show-short, show-wrote, reason-refused, reason-shown}
 
-module _ (m n : ℕ) (es : List Equation) (ws : List ℕ) (allowed : Allowed m n es) (well : WellFormed m n ws) where
+module _ (m n : ℕ) (ls : List Line) (ws : List ℕ) (allowed : Allowed m n ls) (well : WellFormed m n ws) where
   abbrev l : Ledger
-  l = opened m n es
+  l = opened m n ls
 
   abbrev reason : Reason
   reason = claimReason l ws
@@ -43,15 +43,15 @@ module _ (m n : ℕ) (es : List Equation) (ws : List ℕ) (allowed : Allowed m n
   abbrev words : List ℕ
   words = wordsOf (shownKind (claimReason l ws)) (reasonNumbers l ws)
 
-  accepted : refusalOf (opened m n es) (queries (marks ws)) ≡ 0
-  accepted = well-accepted m n es ws well
+  accepted : refusalOf (opened m n ls) (queries (marks ws)) ≡ 0
+  accepted = well-accepted m n ls ws well
 
-  tells : ((markedOf (opened m n es) ws ≡ Gets Pass) ↔ (claimReason (opened m n es) ws ≡ Right))
-      × ((markedOf (opened m n es) ws ≡ Gets Fail) ↔ (claimReason (opened m n es) ws ≡ Right → ⊥))
+  tells : ((markedOf (opened m n ls) ws ≡ Gets Pass) ↔ (claimReason (opened m n ls) ws ≡ Right))
+      × ((markedOf (opened m n ls) ws ≡ Gets Fail) ↔ (claimReason (opened m n ls) ws ≡ Right → ⊥))
   tells =
-      let none = no-reason m n es (claimFrom n (wordsIn ws)) (omega (arith, allowed .modulus)) (allowed .shaped)
+      let none = no-line-reason m n ls (claimFrom n (wordsIn ws)) (omega (arith, allowed .modulus)) (allowed .moduli) (allowed .shaped)
       (claim-formed m n (entriesOf (wordsIn ws)) (claimed n ws (well .0) m (well .1))) in
-      rw (marked-accepted l ws accepted) (mark-decides m n es ws (none .1, none .0) Gets pass-or-fail)
+      rw (marked-accepted l ws accepted) (mark-decides m n ls ws (none .1, none .0) Gets pass-or-fail)
 
   count : length words ≡ length shown
   count = length-map shown (word (shownKind reason))
@@ -67,7 +67,7 @@ module _ (m n : ℕ) (es : List Equation) (ws : List ℕ) (allowed : Allowed m n
   short old less =
       sym (show-short reason words old (omega (arith, count)) .0 ∙ reason-shown l ws old accepted reason shown refl refl .0)
 
-  pub right-reason : (s : Sheet) → ledgerOf s ≡ opened m n es → RightReason s m n es ws
+  pub right-reason : (s : Sheet) → ledgerOf s ≡ opened m n ls → RightReason s m n ls ws
   right-reason s reads =
       record {
         reason = reason;

@@ -1,7 +1,7 @@
 -- What a call that opens, adds or strikes says, and the number of its refusal.
 --   refused-said, holds-said   the number is that of the refusal, or there is none
---   gained-said                a call that gains an equation says how many there are then,
---   gained-reads               and the sheet reads as the ledger with that equation at the end
+--   gained-said                a call that gains a line says how many there are then,
+--   gained-reads               and the sheet reads as the ledger with that line at the end
 use mathlib.Core.Path.{_≡_, refl, ap, _∙_}
 use mathlib.Core.Bool.{Bool, true, false, cond}
 use mathlib.Core.List.{List, [], _∷_, _++_}
@@ -11,8 +11,8 @@ use native.Mathlib.Omega.{arith}
 use borrow.Author.Tests.{eqb-true}
 use lib.Dec.{eqb}
 use lib.ListN.{length}
-use Rattle.equations.specs.Equation.{Equation}
-use Rattle.ledger.specs.Ledger.{Ledger, opened, equationsIn}
+use Rattle.equations.specs.Line.{Line}
+use Rattle.ledger.specs.Ledger.{Ledger, opened, linesIn}
 use Rattle.ledger.specs.Calls.{Entry, enters}
 use Rattle.ledger.specs.Questions.{refusalOf}
 use Rattle.ledger.specs.History.{gains, effectOf, changed, enter}
@@ -45,17 +45,17 @@ module _ (l : Ledger) (e : Entry) where
   unfolding enteredOf
   holds-said k said = holds-is (refusalOf l (enters e)) _ k said
 
-module _ (m n : ℕ) (es : List Equation) (e : Entry) {new : Equation} (effect : effectOf (opened m n es) e ≡ gains new)
-    (none : refusalOf (opened m n es) (enters e) ≡ 0) where
-  entered : enter (opened m n es) (enters e) ≡ opened m n (es ++ (new ∷ []))
-  entered = enter-accepted (opened m n es) e none ∙ ap (changed (opened m n es)) effect
+module _ (m n : ℕ) (ls : List Line) (e : Entry) {new : Line} (effect : effectOf (opened m n ls) e ≡ gains new)
+    (none : refusalOf (opened m n ls) (enters e) ≡ 0) where
+  entered : enter (opened m n ls) (enters e) ≡ opened m n (ls ++ (new ∷ []))
+  entered = enter-accepted (opened m n ls) e none ∙ ap (changed (opened m n ls)) effect
 
-  pub gained-said : enteredOf (opened m n es) e ≡ Holds (suc (length es))
+  pub gained-said : enteredOf (opened m n ls) e ≡ Holds (suc (length ls))
   unfolding enteredOf
   gained-said =
       rw none
-      (ap (λ (l : Ledger). Holds (length (equationsIn l))) entered
-      ∙ ap Holds (gains-counts (opened m n es) new tt ∙ add-one (length es)))
+      (ap (λ (l : Ledger). Holds (length (linesIn l))) entered
+      ∙ ap Holds (gains-counts (opened m n ls) new tt ∙ add-one (length ls)))
 
-  pub gained-reads : (s : Sheet) → ledgerOf s ≡ opened m n es → ledgerOf (sheetAfter s e) ≡ opened m n (es ++ (new ∷ []))
+  pub gained-reads : (s : Sheet) → ledgerOf s ≡ opened m n ls → ledgerOf (sheetAfter s e) ≡ opened m n (ls ++ (new ∷ []))
   gained-reads s reads = reads-after s e ∙ ap (λ (l : Ledger). enter l (enters e)) reads ∙ entered

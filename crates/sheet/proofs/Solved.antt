@@ -1,4 +1,4 @@
--- The block that answers the equations of an opened sheet, and that words can hold it.
+-- The block that answers the lines of an opened sheet, and that words can hold it.
 --   solved-block         its numbers are the block's,
 --   solved-whole         and lie in the array
 --   solved-words         its words are the ledger's answer,
@@ -12,16 +12,22 @@ use mathlib.Core.List.{List, _∷_}
 use Prim.Native.Nat.{ℕ, _+_, _<_, _≤_}
 use native.Mathlib.Omega.{arith}
 use lib.Dec.{T}
-use lib.ListN.{length, take, drop, getD}
+use lib.ListN.{length, take, drop, getD, replicate}
 use lib.Seq.{length-take-le}
+use Rattle.slices.proofs.Over.{over-fits}
 use Rattle.equations.specs.Vectors.{Below}
 use Rattle.equations.proofs.Vectors.{below-mono}
 use Rattle.system.specs.declared.solving.Answer.{Answer}
-use Rattle.system.specs.Block.{blockOf, answerOf}
+use Rattle.equations.specs.Equation.{Equation}
+use Rattle.equations.specs.Line.{scaled}
+use Rattle.equations.proofs.Scaled.{scaled-shaped}
+use Rattle.system.specs.Block.{blockOf, answerFrom, answerOf}
+use Rattle.system.specs.Lines.{lineBlock}
+use Rattle.system.proofs.Lines.{line-block}
 use Rattle.system.proofs.Block.{block-head, block-start, block-below}
-use Rattle.system.proofs.Written.{answer-block, answer-fits}
+use Rattle.system.proofs.Written.{answer-block}
 use Rattle.words.specs.Words.{numbersOfAKind}
-use Rattle.ledger.specs.Ledger.{Ledger, unopened, opened, isOpened, modulusOf, unknownsOf, equationsIn}
+use Rattle.ledger.specs.Ledger.{Ledger, unopened, opened, isOpened, modulusOf, unknownsOf, linesIn}
 use Rattle.ledger.specs.Shapes.{largestHead}
 use Rattle.ledger.specs.Block.{blockWords, answerWords}
 use Rattle.ledger.specs.Allowed.{Allowed}
@@ -31,31 +37,65 @@ use Rattle.ledger.proofs.Blocks.{block-words-length}
 use Rattle.sheet.specs.Calls.{shownOf}
 
 abbrev blockIn : Ledger → List ℕ
-blockIn l = blockOf (modulusOf l) (unknownsOf l) (equationsIn l)
+blockIn l = lineBlock (modulusOf l) (unknownsOf l) (linesIn l)
 
 answer-words : (l : Ledger) → T (isOpened l) → answerWords l ≡ blockWords (blockIn l)
 unfolding answerWords
 answer-words unopened is = absurd is
-answer-words (opened m n es) is = refl
+answer-words (opened m n ls) is = refl
 
-module _ (l : Ledger) (b : Answer) (made : b ≡ answerOf (modulusOf l) (unknownsOf l) (equationsIn l)) where
+pub solved-whole : (l : Ledger) (b : Answer) → b ≡ answerFrom (lineBlock (modulusOf l) (unknownsOf l) (linesIn l))
+    → b .len ≤ length (b .numbers)
+solved-whole l b made = rw made (over-fits (drop 1 (blockIn l)) (replicate 272 0) refl)
+
+module _ (l : Ledger) (allowed : Allowed (modulusOf l) (unknownsOf l) (linesIn l)) (b : Answer)
+    (made : b ≡ answerFrom (lineBlock (modulusOf l) (unknownsOf l) (linesIn l))) where
+  abbrev m : ℕ
+  m = modulusOf l
+
+  abbrev n : ℕ
+  n = unknownsOf l
+
+  -- the lines, with both sides times m/q
+  abbrev es : List Equation
+  es = scaled (modulusOf l) (linesIn l)
+
+  pos : 0 < modulusOf l
+  pos = omega (arith, allowed .modulus)
+
+  same : blockIn l ≡ blockOf m n es
+  same = line-block m n pos (linesIn l) (allowed .moduli)
+
+  solves : b ≡ answerOf m n es
+  unfolding answerOf
+  solves = made ∙ ap answerFrom same
+
   pub solved-block : b .head ∷ take (b .len) (b .numbers) ≡ blockIn l
-  solved-block = answer-block (modulusOf l) (unknownsOf l) (equationsIn l) b made
+  solved-block = answer-block m n es b solves ∙ sym same
 
-  pub solved-whole : b .len ≤ length (b .numbers)
-  solved-whole = answer-fits (modulusOf l) (unknownsOf l) (equationsIn l) b made
+  whole : b .len ≤ length (b .numbers)
+  whole = solved-whole l b made
 
-  head-is : b .head ≡ getD (blockIn l) 0 0
-  head-is = ap (λ (z : List ℕ). getD z 0 0) solved-block
+  head-is : b .head ≡ getD (blockOf m n es) 0 0
+  head-is = ap (λ (z : List ℕ). getD z 0 0) (solved-block ∙ same)
 
   pub solved-start : 0 < b .head → unknownsOf l ≤ b .len
   solved-start h =
       omega (
         arith,
-        ap length solved-block,
-        length-take-le (b .len) (b .numbers) solved-whole,
-        block-start (modulusOf l) (unknownsOf l) (equationsIn l) (omega (arith, head-is)),
+        ap length (solved-block ∙ same),
+        length-take-le (b .len) (b .numbers) whole,
+        block-start m n es (omega (arith, head-is)),
       )
+
+  pub solved-head : b .head ≤ largestHead
+  solved-head = omega (arith, head-is, block-head m n es, allowed .unknowns)
+
+  pub solved-below : Below numbersOfAKind (take (b .len) (b .numbers))
+  solved-below =
+      below-mono m numbersOfAKind (take (b .len) (b .numbers)) (omega (arith, allowed .largest))
+      (subst (λ (z : List ℕ). Below m (drop 1 z)) (sym (solved-block ∙ same))
+      (block-below m n es pos (scaled-shaped m n (linesIn l) (allowed .shaped))))
 
   module _ (is : T (isOpened l)) where
     pub solved-words : blockWords (b .head ∷ take (b .len) (b .numbers)) ≡ answerWords l
@@ -67,20 +107,10 @@ module _ (l : Ledger) (b : Answer) (made : b ≡ answerOf (modulusOf l) (unknown
           arith,
           ap length solved-words,
           block-words-length (b .head ∷ take (b .len) (b .numbers)),
-          length-take-le (b .len) (b .numbers) solved-whole,
+          length-take-le (b .len) (b .numbers) whole,
         )
 
-  module _ (allowed : Allowed (modulusOf l) (unknownsOf l) (equationsIn l)) where
-    pub solved-head : b .head ≤ largestHead
-    solved-head = omega (arith, head-is, block-head (modulusOf l) (unknownsOf l) (equationsIn l), allowed .unknowns)
-
-    pub solved-below : Below numbersOfAKind (take (b .len) (b .numbers))
-    solved-below =
-        below-mono (modulusOf l) numbersOfAKind (take (b .len) (b .numbers)) (omega (arith, allowed .largest))
-        (subst (λ (z : List ℕ). Below (modulusOf l) (drop 1 z)) (sym solved-block)
-        (block-below (modulusOf l) (unknownsOf l) (equationsIn l) (omega (arith, allowed .modulus)) (allowed .shaped)))
-
 pub shown-block : (l : Ledger) (w : ℕ) → refusalOf l (queries (answersFromTape w)) ≡ 0
-    → shownOf l w .block ≡ answerOf (modulusOf l) (unknownsOf l) (equationsIn l)
+    → shownOf l w .block ≡ answerFrom (lineBlock (modulusOf l) (unknownsOf l) (linesIn l))
 unfolding shownOf
 shown-block l w accepted = rw accepted

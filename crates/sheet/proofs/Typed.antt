@@ -1,10 +1,11 @@
 -- What is said of a typed equation, `right-typing`, where the ledger that a sheet reads as is opened.
-use mathlib.Core.Path.{_≡_, sym, ap, subst, _∙_}
+use mathlib.Core.Path.{_≡_, refl, sym, ap, subst, _∙_}
 use mathlib.Core.Logic.{_↔_}
 use mathlib.Core.List.{List}
 use Prim.Native.Nat.{ℕ, _<_}
 use lib.Dec.{T}
 use Rattle.equations.specs.Equation.{Equation, solvesOne}
+use Rattle.equations.specs.Line.{Line}
 use Rattle.grammar.specs.Tree.{Sides}
 use Rattle.grammar.specs.Grammar.{Typed}
 use Rattle.grammar.specs.Meaning.{HoldsMod}
@@ -24,15 +25,15 @@ use Rattle.sheet.specs.Calls.{enteredOf}
 use Rattle.sheet.specs.Promises.{NoEquation, RightTyping}
 use Rattle.sheet.proofs.Said.{refused-said, holds-said, gained-reads}
 
-module _ (m n : ℕ) (es : List Equation) (text : List ℕ) where
+module _ (m n : ℕ) (ls : List Line) (text : List ℕ) where
   abbrev l : Ledger
-  l = opened m n es
+  l = opened m n ls
 
   eleven-said : (enteredOf l (types text) ≡ Refused 11) ↔ NoEquation text
   unfolding enteredOf
   eleven-said = (
-    (λ said. not-typed text .0 (eleven-given m n es text .0 (refused-said l (types text) 11 said))),
-    λ out. rw (eleven-given m n es text .1 (not-typed text .1 out)),
+    (λ said. not-typed text .0 (eleven-given m n ls text .0 (refused-said l (types text) 11 said))),
+    λ out. rw (eleven-given m n ls text .1 (not-typed text .1 out)),
   )
 
   -- the equation that is typed in an accepted text, and the one added
@@ -45,18 +46,19 @@ module _ (m n : ℕ) (es : List Equation) (text : List ℕ) where
       let linear : T (sidesLinear e) = subst (λ x. T (passes sidesLinear x)) is (yes .1 .1 .1 .0) in
       (e, read-typed e text is .0, ap (equationIn m n) is, holds-exactly m n e pos among linear)
 
-pub right-typing : (s : Sheet) (m n : ℕ) (es : List Equation) (text : List ℕ) → ledgerOf s ≡ opened m n es → 0 < m
-    → RightTyping s m n es text
-right-typing s m n es text reads pos =
+pub right-typing : (s : Sheet) (m n : ℕ) (ls : List Line) (text : List ℕ) → ledgerOf s ≡ opened m n ls → 0 < m
+    → RightTyping s m n ls text
+right-typing s m n ls text reads pos =
     record {
-      eleven = subst (λ (l : Ledger). (enteredOf l (types text) ≡ Refused 11) ↔ NoEquation text) (sym reads) (eleven-said m n es text);
+      eleven = subst (λ (l : Ledger). (enteredOf l (types text) ≡ Refused 11) ↔ NoEquation text) (sym reads) (eleven-said m n ls text);
       accepted = λ k said.
-          let none = holds-said (opened m n es) (types text) k (ap (λ (l : Ledger). enteredOf l (types text)) (sym reads) ∙ said) in
-          let (e, typed, same, solved) = typed-added m n es text pos none in (
+          let none = holds-said (opened m n ls) (types text) k (ap (λ (l : Ledger). enteredOf l (types text)) (sym reads) ∙ said) in
+          let (e, typed, same, solved) = typed-added m n ls text pos none in (
             e,
-            equationOf m n e,
+            record { modulus = m; equation = equationOf m n e },
             typed,
-            gained-reads m n es (types text) (ap gains same) none s reads,
+            refl,
+            gained-reads m n ls (types text) (ap (λ (x : Equation). gains (record { modulus = m; equation = x })) same) none s reads,
             solved,
           );
     }

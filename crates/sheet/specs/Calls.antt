@@ -9,8 +9,9 @@ use Rattle.questions.specs.Reply.{Reply, gives, refuses, resultOf, memoryAfter}
 use Rattle.equations.specs.declared.Reason.{Reason}
 use Rattle.equations.specs.Claim.{markNumber}
 use Rattle.system.specs.declared.solving.Answer.{Answer}
-use Rattle.system.specs.Block.{answerOf}
-use Rattle.ledger.specs.Ledger.{Ledger, isOpened, modulusOf, unknownsOf, equationsIn}
+use Rattle.system.specs.Block.{answerFrom}
+use Rattle.system.specs.Lines.{lineBlock}
+use Rattle.ledger.specs.Ledger.{Ledger, isOpened, modulusOf, unknownsOf, linesIn}
 use Rattle.ledger.specs.Block.{answerWords}
 use Rattle.ledger.specs.Marking.{claimMark, claimReason, reasonWords}
 use Rattle.ledger.specs.Classes.{mostClaims, claimsIn}
@@ -32,7 +33,7 @@ use Rattle.sheet.specs.Record.{Sheet, ledgerOf, recordBy}
 
 -- Open, add and strike: "the equations then held", or the number of the question that turned the call away.
 unfoldable pub enteredOf : Ledger → Entry → Entered
-enteredOf l e = unlessRefused Entered·Refused (refusalOf l (enters e)) (Holds (length (equationsIn (enter l (enters e)))))
+enteredOf l e = unlessRefused Entered·Refused (refusalOf l (enters e)) (Holds (length (linesIn (enter l (enters e)))))
 
 -- The sheet after them: the new numbers, or the old ones where the call is refused.
 unfoldable pub sheetAfter : Sheet → Entry → Sheet
@@ -58,7 +59,7 @@ noBlock = record { head = 0; len = 0; numbers = replicate 272 0 }
 unfoldable pub shownOf : Ledger → ℕ → Shown
 shownOf l w =
     unlessRefused (λ (k : ℕ). record { refused = k; block = noBlock }) (refusalOf l (queries (answersFromTape w)))
-    (record { refused = 0; block = answerOf (modulusOf l) (unknownsOf l) (equationsIn l) })
+    (record { refused = 0; block = answerFrom (lineBlock (modulusOf l) (unknownsOf l) (linesIn l)) })
 
 -- Mark: the mark, or the number of the question that turned the claim away.
 unfoldable pub markedOf : Ledger → List ℕ → Marked

@@ -14,25 +14,26 @@ use lib.Dec.{T}
 use lib.ListN.{length, take, getD, replicate}
 use Rattle.slices.specs.Over.{over}
 use Rattle.questions.specs.Questions.{unlessRefused}
+use Rattle.residue.specs.Divides.{Divides}
 use Rattle.equations.specs.Vectors.{Vector}
-use Rattle.equations.specs.Equation.{Equation, solvesOne, solves}
 use Rattle.equations.specs.Whole.{HoldsWhole}
-use Rattle.equations.specs.Answer.{startOf, stepsOf}
-use Rattle.equations.specs.Multipliers.{refutes, allBelow}
+use Rattle.equations.specs.Multipliers.{allBelow}
 use Rattle.equations.specs.declared.Mark.the-variants.{Pass, Fail}
 use Rattle.equations.specs.declared.Reason.{Reason}
 use Rattle.equations.specs.declared.Reason.the-variants.{Right}
 use Rattle.equations.specs.Claim.{Claim, describes}
-use Rattle.equations.specs.Reasons.{Says}
-use Rattle.system.specs.Block.{answerOf}
+use Rattle.equations.specs.Line.{Line, holdsOne, holds, lineStart, lineSteps, lineRefutes}
+use Rattle.equations.specs.LineReasons.{LineSays}
+use Rattle.system.specs.Block.{answerFrom}
+use Rattle.system.specs.Lines.{lineBlock}
 use Rattle.words.specs.Words.{word, wordOf, wordsIn, wordsOf, headKind, entryKind, multiplierKind}
 use Rattle.words.specs.Signs.{wholesOf}
 use Rattle.grammar.specs.Tree.{Sides}
 use Rattle.grammar.specs.Grammar.{Typed, largestText}
 use Rattle.grammar.specs.Meaning.{HoldsMod}
-use Rattle.ledger.specs.Ledger.{unopened, opened, modulusOf, unknownsOf, equationsIn, mostEquations}
+use Rattle.ledger.specs.Ledger.{unopened, opened, modulusOf, unknownsOf, linesIn, mostEquations}
 use Rattle.ledger.specs.Allowed.{Allowed}
-use Rattle.ledger.specs.Shapes.{isEquation, isClaim, largestHead, entriesOf, claimFrom}
+use Rattle.ledger.specs.Shapes.{isEquation, ownModulus, equationWords, isClaim, largestHead, entriesOf, claimFrom}
 use Rattle.ledger.specs.Block.{longestBlock, blockWords, answerWords}
 use Rattle.ledger.specs.Marking.{claimMark, claimReason, shownKind, reasonWords}
 use Rattle.ledger.specs.Classes.{mostClaims, claimsIn}
@@ -56,23 +57,23 @@ OpeningAccepted calls =
     (before : List Call) × (ws : List ℕ) × (rest : List Call)
     × (calls ≡ before ++ (enters (opens ws) ∷ rest)) × (refusalOf (ledger before) (enters (opens ws)) ≡ 0)
 
--- "no vector of residues solves all those equations"
-abbrev pub NothingSolves : ℕ → ℕ → List Equation → Type 0
-NothingSolves m n es = (v : List ℕ) → Vector m n v → T (solves m es v) → ⊥
+-- "no vector of residues solves all those equations", each line mod its q
+abbrev pub NothingSolves : ℕ → ℕ → List Line → Type 0
+NothingSolves m n ls = (v : List ℕ) → Vector m n v → T (holds ls v) → ⊥
 
--- The block that answers es, word for word.
-pub record RightBlock (m n : ℕ) (es : List Equation) (block : List ℕ) : Type 0 where
+-- The block that answers ls, word for word.
+pub record RightBlock (m n : ℕ) (ls : List Line) (block : List ℕ) : Type 0 where
   -- 'says "no solution" exactly when no vector of residues solves all those equations'
-  pub none : (getD block 0 0 ≡ word headKind 0) ↔ NothingSolves m n es
+  pub none : (getD block 0 0 ≡ word headKind 0) ↔ NothingSolves m n ls
   -- "In that case it shows multipliers, one for each equation, under which they add up mod m to 0 = a number that
   -- is not 0."
-  pub multipliers : NothingSolves m n es
-      → (ks : List ℕ) × T (refutes m n es ks) × (block ≡ word headKind 0 ∷ wordsOf multiplierKind ks)
+  pub multipliers : NothingSolves m n ls
+      → (ks : List ℕ) × T (lineRefutes m n ls ks) × (block ≡ word headKind 0 ∷ wordsOf multiplierKind ks)
   -- "Otherwise it is the answer of demand 2 for those equations: 01's starting vector, then all of 01's steps
   -- and no others, by rising place."
-  pub vectors : (NothingSolves m n es → ⊥)
-      → (start : List ℕ) × (startOf m n es ≡ some start)
-      × (block ≡ word headKind (suc (length (stepsOf m n es))) ∷ wordsOf entryKind (start ++ flatten (stepsOf m n es)))
+  pub vectors : (NothingSolves m n ls → ⊥)
+      → (start : List ℕ) × (lineStart m n ls ≡ some start)
+      × (block ≡ word headKind (suc (length (lineSteps m n ls))) ∷ wordsOf entryKind (start ++ flatten (lineSteps m n ls)))
 
 -- numbers whose words are the block
 abbrev pub Shows : List ℕ → Shown → Type 0
@@ -84,20 +85,20 @@ abbrev pub WellFormed : ℕ → ℕ → List ℕ → Type 0
 WellFormed m n ws = T (isClaim n (wordsIn ws)) × T (allBelow m (entriesOf (wordsIn ws)))
 
 -- "the vectors it describes are the vectors that solve all those equations"
-abbrev pub DescribesSolutions : ℕ → ℕ → List Equation → Claim → Type 0
-DescribesSolutions m n es claim = (v : List ℕ) → T (describes m claim v) ↔ (Vector m n v × T (solves m es v))
+abbrev pub DescribesSolutions : ℕ → ℕ → List Line → Claim → Type 0
+DescribesSolutions m n ls claim = (v : List ℕ) → T (describes m claim v) ↔ (Vector m n v × T (holds ls v))
 
 -- "passed exactly when the vectors it describes are the vectors that solve all those equations, and failed otherwise"
-pub record RightMark (m n : ℕ) (es : List Equation) (claim : Claim) (marked : Marked) : Type 0 where
-  pub passed : (marked ≡ Gets Pass) ↔ DescribesSolutions m n es claim
-  pub failed : (marked ≡ Gets Fail) ↔ (DescribesSolutions m n es claim → ⊥)
+pub record RightMark (m n : ℕ) (ls : List Line) (claim : Claim) (marked : Marked) : Type 0 where
+  pub passed : (marked ≡ Gets Pass) ↔ DescribesSolutions m n ls claim
+  pub failed : (marked ≡ Gets Fail) ↔ (DescribesSolutions m n ls claim → ⊥)
 
--- What demand 3 says of a sheet whose ledger has m, n and es.
-pub record RightSheet (s : Sheet) (m n : ℕ) (es : List Equation) : Type 0 where
-  pub allowed : Allowed m n es
+-- What demand 3 says of a sheet whose ledger has m, n and ls.
+pub record RightSheet (s : Sheet) (m n : ℕ) (ls : List Line) : Type 0 where
+  pub allowed : Allowed m n ls
   -- the block that answers them
   pub block : List ℕ
-  pub right : RightBlock m n es block
+  pub right : RightBlock m n ls block
   pub fits : length block ≤ longestBlock
   -- "An answer asked for then, into a long enough buffer" that held `old`: "Buffer long enough for this block? 8"
   pub answer : (old : List ℕ) → length block ≤ length old
@@ -107,16 +108,16 @@ pub record RightSheet (s : Sheet) (m n : ℕ) (es : List Equation) : Type 0 wher
   pub answerFromTape : (w : ℕ) → T (plain w) → Shows block (shownOf (ledgerOf s) w)
   -- "And a well-formed claim marked then"
   pub mark : (ws : List ℕ) → WellFormed m n ws
-      → RightMark m n es (claimFrom n (wordsIn ws)) (markedOf (ledgerOf s) ws)
+      → RightMark m n ls (claimFrom n (wordsIn ws)) (markedOf (ledgerOf s) ws)
 
 -- What demand 3 says after a list of calls.
 pub record Promised (calls : List Call) : Type 0 where
   -- "take the equations that 01's ledger holds after it"
   pub m : ℕ
   pub n : ℕ
-  pub es : List Equation
-  pub holds : ledger calls ≡ opened m n es
-  pub right : RightSheet (after calls) m n es
+  pub ls : List Line
+  pub holds : ledger calls ≡ opened m n ls
+  pub right : RightSheet (after calls) m n ls
 
 -- "For every list of the calls open, add, strike, answer and mark from a fresh sheet, refused calls anywhere in it and
 -- at least one opening accepted"
@@ -130,14 +131,14 @@ pub record Decided (calls : List Call) : Type 0 where
   -- "Nothing is turned away except by a question in document 01, with that question's number"
   pub entering : (e : Entry)
       → enteredOf (ledgerOf (after calls)) e
-      ≡ unlessRefused Entered·Refused (refusalOf (ledger calls) (enters e)) (Holds (length (equationsIn (enter (ledger calls) (enters e)))))
+      ≡ unlessRefused Entered·Refused (refusalOf (ledger calls) (enters e)) (Holds (length (linesIn (enter (ledger calls) (enters e)))))
   pub answering : (old : List ℕ)
       → answeredOf (ledgerOf (after calls)) old
       ≡ unlessRefused Answered·Refused (refusalOf (ledger calls) (queries (answers old))) (Wrote (length (answerWords (ledger calls))))
   pub showing : (w : ℕ)
       → shownOf (ledgerOf (after calls)) w
       ≡ unlessRefused (λ (k : ℕ). record { refused = k; block = noBlock }) (refusalOf (ledger calls) (queries (answersFromTape w)))
-      (record { refused = 0; block = answerOf (modulusOf (ledger calls)) (unknownsOf (ledger calls)) (equationsIn (ledger calls)) })
+      (record { refused = 0; block = answerFrom (lineBlock (modulusOf (ledger calls)) (unknownsOf (ledger calls)) (linesIn (ledger calls))) })
   pub marking : (ws : List ℕ)
       → markedOf (ledgerOf (after calls)) ws
       ≡ unlessRefused Marked·Refused (refusalOf (ledger calls) (queries (marks ws))) (Gets (claimMark (ledger calls) ws))
@@ -163,8 +164,8 @@ DecidedAlways = (calls : List Call) → Decided calls
 -- The block that an answer wrote, given to mark from the same buffer, passes where there is a solution.
 abbrev pub OwnBlockPasses : Type 0
 OwnBlockPasses =
-    (calls : List Call) (m n : ℕ) (es : List Equation) (old : List ℕ)
-    → ledger calls ≡ opened m n es → (NothingSolves m n es → ⊥) → length (answerWords (ledger calls)) ≤ length old
+    (calls : List Call) (m n : ℕ) (ls : List Line) (old : List ℕ)
+    → ledger calls ≡ opened m n ls → (NothingSolves m n ls → ⊥) → length (answerWords (ledger calls)) ≤ length old
     → markedOf (ledgerOf (after calls)) (take (length (answerWords (ledger calls))) (bufferAfter (ledgerOf (after calls)) old))
     ≡ Gets Pass
 
@@ -174,36 +175,46 @@ ZerosAreFresh = (replicate size 0 ≡ after []) × (ledgerOf (replicate size 0) 
 
 -- Whatever numbers the memory holds: where they read as an opened sheet, answers and marks are right.
 abbrev pub RightAlways : Type 0
-RightAlways = (s : Sheet) (m n : ℕ) (es : List Equation) → ledgerOf s ≡ opened m n es → RightSheet s m n es
+RightAlways = (s : Sheet) (m n : ℕ) (ls : List Line) → ledgerOf s ≡ opened m n ls → RightSheet s m n ls
 
 -- And calls go on from the ledger that they read as.
 abbrev pub ReadsOn : Type 0
 ReadsOn = (s : Sheet) (calls : List Call) → ledgerOf (sheetFrom s calls) ≡ ledgerFrom (ledgerOf s) calls
 
--- What document 02 says of an equation in words, S-3, on a sheet whose ledger has m, n and es.
-pub record RightAdding (s : Sheet) (m n : ℕ) (es : List Equation) (ws : List ℕ) : Type 0 where
-  -- "Any number of 28 bits is allowed": it is added exactly where its shape is right and there is room
-  pub allowed : (enteredOf (ledgerOf s) (adds ws) ≡ Holds (suc (length es)))
-      ↔ (T (isEquation n (wordsIn ws)) × (length es < mostEquations))
-  -- "and is brought to its residue": the words, as an equation of whole numbers, hold mod m at exactly the vectors that solve the
-  -- equation added
+-- "An equation record gains a modulus q that divides the sheet's m"; below 2 it is turned away
+abbrev pub LineModulus : ℕ → ℕ → Type 0
+LineModulus m q = (2 ≤ q) × Divides q m
+
+-- What document 02 says of an equation in words, S-3 and S-6, on a sheet whose ledger has m, n and ls, where the line
+-- has the modulus q.
+pub record RightAdding (s : Sheet) (m n : ℕ) (ls : List Line) (ws : List ℕ) (q : ℕ) : Type 0 where
+  -- "Any number of 28 bits is allowed": it is added exactly where its shape is right, q is one of a line and there is room
+  pub allowed : (enteredOf (ledgerOf s) (adds ws) ≡ Holds (suc (length ls)))
+      ↔ (T (isEquation n (equationWords (wordsIn ws))) × LineModulus m q × (length ls < mostEquations))
+  -- "right after shape and before 5, q below 2 or not dividing m 15"
+  pub fifteen : (enteredOf (ledgerOf s) (adds ws) ≡ Entered·Refused 15)
+      ↔ (T (isEquation n (equationWords (wordsIn ws))) × (LineModulus m q → ⊥))
+  -- "and is brought to its residue", "Its numbers become residues mod q": the words, as an equation of whole numbers, hold mod q at
+  -- exactly the vectors where the line added holds
   pub accepted : (k : ℕ) → enteredOf (ledgerOf s) (adds ws) ≡ Holds k
-      → (added : Equation) × (ledgerOf (sheetAfter s (adds ws)) ≡ opened m n (es ++ (added ∷ [])))
-      × ((v : List ℕ) → HoldsWhole m n (wholesOf (wordsIn ws)) v ↔ T (solvesOne m added v))
+      → (added : Line) × (added .modulus ≡ q) × (ledgerOf (sheetAfter s (adds ws)) ≡ opened m n (ls ++ (added ∷ [])))
+      × ((v : List ℕ) → HoldsWhole q n (wholesOf (equationWords (wordsIn ws))) v ↔ T (holdsOne added v))
 
--- Whatever the memory holds, and so after every list of calls.
+-- Whatever the memory holds, and so after every list of calls; q is the number of "a word of kind 12", and "without it .. q is m".
 abbrev pub AddedAlways : Type 0
-AddedAlways = (s : Sheet) (m n : ℕ) (es : List Equation) (ws : List ℕ) → ledgerOf s ≡ opened m n es → RightAdding s m n es ws
+AddedAlways =
+    (s : Sheet) (m n : ℕ) (ls : List Line) (ws : List ℕ) → ledgerOf s ≡ opened m n ls
+    → RightAdding s m n ls ws (ownModulus m (wordsIn ws))
 
--- What document 02 says of the reason of a well-formed claim, S-5, on a sheet whose ledger has m, n and es.
-pub record RightReason (s : Sheet) (m n : ℕ) (es : List Equation) (ws : List ℕ) : Type 0 where
+-- What document 02 says of the reason of a well-formed claim, S-5, on a sheet whose ledger has m, n and ls.
+pub record RightReason (s : Sheet) (m n : ℕ) (ls : List Line) (ws : List ℕ) : Type 0 where
   -- "A passed claim gives no reason, and each failed one gives a reason"
   pub reason : Reason
   pub passed : (markedOf (ledgerOf s) ws ≡ Gets Pass) ↔ (reason ≡ Right)
   pub failed : (markedOf (ledgerOf s) ws ≡ Gets Fail) ↔ (reason ≡ Right → ⊥)
   -- "that is true as stated", with the numbers that are shown
   pub shown : List ℕ
-  pub says : Says m n es (claimFrom n (wordsIn ws)) reason shown
+  pub says : LineSays m n ls (claimFrom n (wordsIn ws)) reason shown
   -- "It writes words of kinds 6 and 7 as the answer does", into a long enough buffer that held `old`; where it shows nothing, every buffer
   -- is long enough and "keeps its content"
   pub given : (old : List ℕ) → length shown ≤ length old
@@ -215,7 +226,7 @@ pub record RightReason (s : Sheet) (m n : ℕ) (es : List Equation) (ws : List �
 -- Whatever the memory holds, and so after every list of calls.
 abbrev pub ReasonAlways : Type 0
 ReasonAlways =
-    (s : Sheet) (m n : ℕ) (es : List Equation) (ws : List ℕ) → ledgerOf s ≡ opened m n es → WellFormed m n ws → RightReason s m n es ws
+    (s : Sheet) (m n : ℕ) (ls : List Line) (ws : List ℕ) → ledgerOf s ≡ opened m n ls → WellFormed m n ws → RightReason s m n ls ws
 
 -- "The questions are those of marking": what marking turns away is turned away with the same number, on every sheet and with any buffer.
 abbrev pub SameRefusals : Type 0
@@ -223,56 +234,56 @@ SameRefusals =
     (s : Sheet) (ws old : List ℕ) (k : ℕ) → markedOf (ledgerOf s) ws ≡ Marked·Refused k
     → (reasonedOf (ledgerOf s) ws old ≡ Reasoned·Refused k) × (shownAfter (ledgerOf s) ws old ≡ old)
 
--- What the byte of a claim in words says, on a ledger that has m, n and es: "0 fail, 1 pass or the refusal number plus 100".
-pub record RightByte (m n : ℕ) (es : List Equation) (ws : List ℕ) (byte : ℕ) : Type 0 where
+-- What the byte of a claim in words says, on a ledger that has m, n and ls: "0 fail, 1 pass or the refusal number plus 100".
+pub record RightByte (m n : ℕ) (ls : List Line) (ws : List ℕ) (byte : ℕ) : Type 0 where
   -- of a well-formed claim 1 exactly where "the vectors it describes are the vectors that solve all those equations", and 0 otherwise
-  pub passed : WellFormed m n ws → (byte ≡ 1) ↔ DescribesSolutions m n es (claimFrom n (wordsIn ws))
-  pub failed : WellFormed m n ws → (byte ≡ 0) ↔ (DescribesSolutions m n es (claimFrom n (wordsIn ws)) → ⊥)
+  pub passed : WellFormed m n ws → (byte ≡ 1) ↔ DescribesSolutions m n ls (claimFrom n (wordsIn ws))
+  pub failed : WellFormed m n ws → (byte ≡ 0) ↔ (DescribesSolutions m n ls (claimFrom n (wordsIn ws)) → ⊥)
   -- "Shape right? 1. Entries below m? 6."
   pub misshapen : (byte ≡ 101) ↔ (T (isClaim n (wordsIn ws)) → ⊥)
   pub notBelow : (byte ≡ 106) ↔ (T (isClaim n (wordsIn ws)) × (T (allBelow m (entriesOf (wordsIn ws))) → ⊥))
 
--- The bytes of an accepted class with these claims, on a sheet whose ledger has m, n and es; they held `old`.
-pub record RightMarks (s : Sheet) (m n : ℕ) (es : List Equation) (claims : List (List ℕ)) (old new : List ℕ) : Type 0 where
+-- The bytes of an accepted class with these claims, on a sheet whose ledger has m, n and ls; they held `old`.
+pub record RightMarks (s : Sheet) (m n : ℕ) (ls : List Line) (claims : List (List ℕ)) (old new : List ℕ) : Type 0 where
   -- "The bytes are those that marking each claim singly would give, in that order"
   pub singly : (i : ℕ) → i < length claims → getD new i 0 ≡ markByte (markedOf (ledgerOf s) (getD claims i []))
-  pub says : (i : ℕ) → i < length claims → RightByte m n es (getD claims i []) (getD new i 0)
+  pub says : (i : ℕ) → i < length claims → RightByte m n ls (getD claims i []) (getD new i 0)
   -- "bytes past the last claim keep their content"
   pub size : length new ≡ length old
   pub kept : (i : ℕ) → length claims ≤ i → getD new i 0 ≡ getD old i 0
 
 -- What document 02 says of a class, S-4, on such a sheet.
-pub record RightClass (s : Sheet) (m n : ℕ) (es : List Equation) (ws old : List ℕ) : Type 0 where
+pub record RightClass (s : Sheet) (m n : ℕ) (ls : List Line) (ws old : List ℕ) : Type 0 where
   -- "up to 64 claims .. and a byte per claim": so many are marked exactly where there are no more, and bytes enough
   pub allowed : (classedOf (ledgerOf s) ws old ≡ Claims (length (claimsIn n ws)))
       ↔ ((length (claimsIn n ws) ≤ mostClaims) × (length (claimsIn n ws) ≤ length old))
   pub accepted : classedOf (ledgerOf s) ws old ≡ Claims (length (claimsIn n ws))
-      → RightMarks s m n es (claimsIn n ws) old (marksAfter (ledgerOf s) ws old)
+      → RightMarks s m n ls (claimsIn n ws) old (marksAfter (ledgerOf s) ws old)
 
 -- Whatever the memory holds, and so after every list of calls.
 abbrev pub ClassAlways : Type 0
-ClassAlways = (s : Sheet) (m n : ℕ) (es : List Equation) (ws old : List ℕ) → ledgerOf s ≡ opened m n es → RightClass s m n es ws old
+ClassAlways = (s : Sheet) (m n : ℕ) (ls : List Line) (ws old : List ℕ) → ledgerOf s ≡ opened m n ls → RightClass s m n ls ws old
 
 -- "a word of another kind where a head should stand is a claim of one word and gets 101"; and so does a head "with a number above 17"
 abbrev pub StrayWords : Type 0
 StrayWords =
-    (m n : ℕ) (es : List Equation) (w : ℕ) (ws : List ℕ) → ((wordOf w .kind ≡ headKind) × (wordOf w .number ≤ largestHead) → ⊥)
-    → (claimsIn n (w ∷ ws) ≡ (w ∷ []) ∷ claimsIn n ws) × (markByte (markedOf (opened m n es) (w ∷ [])) ≡ 101)
+    (m n : ℕ) (ls : List Line) (w : ℕ) (ws : List ℕ) → ((wordOf w .kind ≡ headKind) × (wordOf w .number ≤ largestHead) → ⊥)
+    → (claimsIn n (w ∷ ws) ≡ (w ∷ []) ∷ claimsIn n ws) × (markByte (markedOf (opened m n ls) (w ∷ [])) ≡ 101)
 
 -- "texts outside this grammar or over 256 bytes"
 abbrev pub NoEquation : List ℕ → Type 0
 NoEquation text = ((e : Sides) → Typed e text → ⊥) ⊎ (largestText < length text)
 
--- What document 02 says of an equation typed as text, S-1, on a sheet whose ledger has m, n and es.
-pub record RightTyping (s : Sheet) (m n : ℕ) (es : List Equation) (text : List ℕ) : Type 0 where
+-- What document 02 says of an equation typed as text, S-1, on a sheet whose ledger has m, n and ls.
+pub record RightTyping (s : Sheet) (m n : ℕ) (ls : List Line) (text : List ℕ) : Type 0 where
   -- "On an opened sheet 11 is given exactly for texts outside this grammar or over 256 bytes"
   pub eleven : (enteredOf (ledgerOf s) (types text) ≡ Entered·Refused 11) ↔ NoEquation text
-  -- "and an accepted text holds mod m at exactly the vectors that solve the equation added."
+  -- "and an accepted text holds mod m at exactly the vectors that solve the equation added."; "for typed text, q is m"
   pub accepted : (k : ℕ) → enteredOf (ledgerOf s) (types text) ≡ Holds k
-      → (e : Sides) × (added : Equation) × Typed e text
-      × (ledgerOf (sheetAfter s (types text)) ≡ opened m n (es ++ (added ∷ [])))
-      × ((v : List ℕ) → HoldsMod m e v ↔ T (solvesOne m added v))
+      → (e : Sides) × (added : Line) × Typed e text × (added .modulus ≡ m)
+      × (ledgerOf (sheetAfter s (types text)) ≡ opened m n (ls ++ (added ∷ [])))
+      × ((v : List ℕ) → HoldsMod m e v ↔ T (holdsOne added v))
 
 -- So it is with texts too.
 abbrev pub TypedAlways : Type 0
-TypedAlways = (s : Sheet) (m n : ℕ) (es : List Equation) (text : List ℕ) → ledgerOf s ≡ opened m n es → RightTyping s m n es text
+TypedAlways = (s : Sheet) (m n : ℕ) (ls : List Line) (text : List ℕ) → ledgerOf s ≡ opened m n ls → RightTyping s m n ls text

@@ -7,8 +7,9 @@ use lib.Dec.{T}
 use lib.ListN.{length, take}
 use Rattle.questions.specs.Questions.{unlessRefused}
 use Rattle.equations.specs.Lines.{equationsOf}
+use Rattle.equations.specs.Line.{scaled}
 use Rattle.system.specs.Posed.{Posed}
-use Rattle.ledger.specs.Ledger.{Ledger, isOpened, equationsIn}
+use Rattle.ledger.specs.Ledger.{Ledger, isOpened, modulusOf, linesIn}
 use Rattle.ledger.specs.Marking.{claimReason, reasonNumbers}
 use Rattle.ledger.specs.Calls.{marks, queries}
 use Rattle.ledger.specs.Questions.{refusalOf}
@@ -18,20 +19,20 @@ use Rattle.sheet.specs.declared.Entered.the-variants.{Holds, Refused}
 use Rattle.sheet.specs.declared.reasoning.Reasoned.{Reasoned}
 use Rattle.sheet.specs.declared.reasoning.Reasoned.the-variants.{Gives, Refused as Reasoned·Refused}
 use Rattle.sheet.specs.declared.viewing.View.{View}
-use Rattle.sheet.specs.Record.{Sheet, cellsIn, ledgerOf}
+use Rattle.sheet.specs.Record.{Sheet, cellsAt, cellsIn, ledgerOf}
 
 -- the numbers between the place where the cells begin and an end
 abbrev pub linesTo : ℕ → Sheet → List ℕ
-linesTo end s = take (end - 3) (cellsIn s)
+linesTo end s = take (end - cellsAt) (cellsIn s)
 
--- what the questions see; and of an opened sheet where the ledger's equations end, which may be asked about
+-- what the questions see; and of an opened sheet where the cells of its lines end: these lines, each with both sides times m/q, are a system mod m
 pub record Views (s : Sheet) (view : View) : Type 0 where
   pub sees : Sees (ledgerOf s) (view .seen)
-  pub begins : 3 ≤ view .end
+  pub begins : cellsAt ≤ view .end
   pub fits : T (isOpened (ledgerOf s)) → view .end ≤ length s
   pub posed : T (isOpened (ledgerOf s)) → Posed (view .seen .modulus) (view .seen .unknowns) (linesTo (view .end) s)
   pub equations : T (isOpened (ledgerOf s))
-      → equationsOf (view .seen .unknowns) (linesTo (view .end) s) ≡ equationsIn (ledgerOf s)
+      → equationsOf (view .seen .unknowns) (linesTo (view .end) s) ≡ scaled (modulusOf (ledgerOf s)) (linesIn (ledgerOf s))
 
 -- the equations held, if a call says so
 abbrev pub heldBy : Entered → ℕ

@@ -1,8 +1,9 @@
 // The answer to a sheet's equations: as a block of words, or as its numbers.
 ghost use mathlib.Core.Path.{_≡_};
 ghost use lib.Dec.{T};
-ghost use Rattle.system.specs.Block.{answerOf};
-ghost use Rattle.ledger.specs.Ledger.{isOpened, modulusOf, unknownsOf, equationsIn};
+ghost use Rattle.system.specs.Block.{answerFrom};
+ghost use Rattle.system.specs.Lines.{lineBlock};
+ghost use Rattle.ledger.specs.Ledger.{isOpened, modulusOf, unknownsOf, linesIn};
 ghost use Rattle.sheet.specs.Record.{ledgerOf};
 ghost use Rattle.sheet.specs.Calls.{answeredOf, bufferAfter, noBlock, shownOf};
 ghost use Rattle.sheet.specs.View.{Views};
@@ -67,11 +68,11 @@ impl Sheet {
     }
 }
 
-// The block that answers the equations.
+// The block that answers the lines.
 fn block_of(sheet: &[u32], view: View) -> Answer
     requires { ⌜ Views (now sheet) view × T (isOpened (ledgerOf (now sheet))) ⌝ }
-    ensures { λ r. ⌜ r ≡ answerOf (modulusOf (ledgerOf (now (sheet .entry)))) (unknownsOf (ledgerOf (now (sheet .entry))))
-        (equationsIn (ledgerOf (now (sheet .entry)))) ⌝ }
+    ensures { λ r. ⌜ r ≡ answerFrom (lineBlock (modulusOf (ledgerOf (now (sheet .entry)))) (unknownsOf (ledgerOf (now (sheet .entry))))
+        (linesIn (ledgerOf (now (sheet .entry))))) ⌝ }
 {
     let seen = view.seen;
     let end = view.end;

@@ -15,15 +15,18 @@ ghost use mathlib.Core.Path.{_≡_};
 ghost use Rattle.sheet.specs.Record.{fresh};
 use system::limits;
 
-// The places of the modulus, the unknowns and the number of equations held, and the first one of the cells. The equations lie one behind
-// the other at the front of the cells: as many coefficients as there are unknowns, then the right side.
+// The places of the modulus, the unknowns and the number of lines held, and the first ones of the lines' moduli and of the cells. The lines
+// lie one behind the other at the front of the cells: as many coefficients as there are unknowns, then the right side, both sides times
+// m/q. So they are the equations mod m that answers and marks ask about, and these read them where they lie.
 pub(crate) const MODULUS_AT: usize = 0;
 
 pub(crate) const UNKNOWNS_AT: usize = 1;
 
 pub(crate) const HELD_AT: usize = 2;
 
-pub(crate) const CELLS_AT: usize = 3;
+pub(crate) const MODULI_AT: usize = 3;
+
+pub(crate) const CELLS_AT: usize = MODULI_AT + limits::EQUATIONS;
 
 pub struct Sheet {
     pub numbers: [u32; Sheet::SIZE],
@@ -46,8 +49,7 @@ impl Sheet {
 
     pub const UNKNOWNS: usize = limits::UNKNOWNS;
 
-    // Room for one number more in each equation than calls put there today.
-    pub const SIZE: usize = CELLS_AT + limits::EQUATIONS * (limits::LINE + 1);
+    pub const SIZE: usize = CELLS_AT + limits::EQUATIONS * limits::LINE;
 
     // No modulus yet: the sheet is unopened.
     pub fn fresh() -> Sheet

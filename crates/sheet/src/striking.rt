@@ -10,6 +10,7 @@ ghost use Rattle.sheet.specs.Calls.{enteredOf, sheetAfter};
 use crate::CELLS_AT;
 use crate::Entered;
 use crate::HELD_AT;
+use crate::MODULI_AT;
 use crate::Sheet;
 use crate::UNKNOWNS_AT;
 use crate::wide;
@@ -33,7 +34,7 @@ impl Sheet {
     }
 }
 
-// The equation at a place goes: those behind it close up.
+// The line at a place goes, with its modulus: those behind it close up.
 fn without_line(sheet: &mut [u32], place: usize)
     requires { ⌜ T (isOpened (ledgerOf (now sheet))) × (place < heldIn (now sheet)) ⌝ }
     ensures { λ _. ⌜ now (sheet .exit) ≡ recordBy (now (sheet .entry)) (loses place) ⌝ }
@@ -44,5 +45,7 @@ fn without_line(sheet: &mut [u32], place: usize)
     let front = place * width;
     let at = CELLS_AT + front;
     move_up(&mut sheet[at..], width, filled - front - width);
+    let own = MODULI_AT + place;
+    move_up(&mut sheet[own..], 1, wide(held) - place - 1);
     sheet[HELD_AT] = held - 1;
 }

@@ -9,7 +9,7 @@ use crate::adding::with_line;
 use asking::entries::typing_of;
 
 impl Sheet {
-    // A typed equation is an add: its line goes behind the others.
+    // A typed equation is an add: its line goes behind the others, mod the sheet's modulus.
     pub fn add_text(sheet: &mut [u32; Sheet::SIZE], text: &[u8]) -> Entered
         ensures { λ r. ⌜ r ≡ enteredOf (ledgerOf (now (sheet .entry))) (types (now (text .entry))) ⌝ }
         ensures { λ _. ⌜ now (sheet .exit) ≡ sheetAfter (now (sheet .entry)) (types (now (text .entry))) ⌝ }
@@ -22,7 +22,7 @@ impl Sheet {
         }
         let width = seen.unknowns + 1;
         let line = typing.line;
-        with_line(sheet, &line[..width]);
+        with_line(sheet, seen.modulus, &line[..width]);
         Entered::Holds(seen.held + 1)
     }
 }

@@ -7,16 +7,19 @@ ghost use Rattle.sheet.specs.Record.{ledgerOf};
 ghost use Rattle.sheet.specs.View.{Views};
 use crate::CELLS_AT;
 use crate::HELD_AT;
+use crate::MODULI_AT;
 use crate::MODULUS_AT;
 use crate::Sheet;
 use crate::UNKNOWNS_AT;
 use crate::wide;
 use asking::Seen;
 use asking::are_unknowns;
+use lines::lines_fit;
 use questions::is_modulus;
 use system::residues::all_below;
 
-// What the questions see, and the place behind the equations, which lie from the first cell on, each n coefficients and a right side.
+// What the questions see, and the place behind the lines, which lie from the first cell on, each n coefficients and a right side, both sides
+// times m/q: as equations mod m.
 pub(crate) struct View {
     pub seen: Seen,
     pub end: usize,
@@ -73,6 +76,10 @@ impl Sheet {
         }
         let end = CELLS_AT + held * (n + 1);
         let numbers = &sheet[..];
-        all_below(m, &numbers[CELLS_AT..end])
+        if !all_below(m, &numbers[CELLS_AT..end]) {
+            return false;
+        }
+        let own_end = MODULI_AT + held;
+        lines_fit(m, n, &numbers[MODULI_AT..own_end], &numbers[CELLS_AT..end])
     }
 }

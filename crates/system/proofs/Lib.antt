@@ -17,4 +17,5 @@ pub mod Marks
 pub mod Prepared
 pub mod Claims
 pub mod Reasons
+pub mod Lines
 pub mod Explained

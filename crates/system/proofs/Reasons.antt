@@ -1,27 +1,23 @@
 -- The promises of specs/Reasons.antt, kept.
 --   true-reason, no-reason
---   says-residues, says-few   what a reason shows are residues, and as many as there are unknowns or equations at most
+--   start-shown               where there is a solution, the start that is shown is one
 use mathlib.Core.Path.{_≡_, refl, _∙_, subst}
 use mathlib.Core.Logic.{_⊎_, inl, inr}
 use mathlib.Core.List.{List}
 use mathlib.Core.Option.{none}
 use mathlib.Core.Bool.{Bool, true, false, _&&_}
-use Prim.Native.Nat.{ℕ, _<_, _≤_}
-use native.Mathlib.Omega.{arith}
-use lib.ListN.{length}
+use Prim.Native.Nat.{ℕ, _<_}
 use lib.Dec.{T}
 use mir.Facts.{and-yes}
 use Rattle.equations.specs.declared.Reason.{Reason}
-use Rattle.equations.specs.declared.Reason.the-variants.{Right, Solvable, Unsolvable, Breaks, Changes, Misses}
+use Rattle.equations.specs.declared.Reason.the-variants.{Right}
 use Rattle.equations.specs.Lists.{every}
-use Rattle.equations.specs.Vectors.{Vector, AllVectors, Below}
+use Rattle.equations.specs.Vectors.{Vector, AllVectors}
 use Rattle.equations.specs.Equation.{Equation, solves, Shaped}
 use Rattle.equations.specs.Answer.{startOf}
 use Rattle.equations.specs.Claim.{Claim, noSolution, from, passes}
 use Rattle.equations.specs.Reasons.{hasSolution, keeps, reasonOf, Solution, Says, Formed}
 use Rattle.equations.proofs.Truth.{true-of, of-true, of-false, true-or-false}
-use Rattle.equations.proofs.Vectors.{vector-length, vector-below}
-use Rattle.equations.proofs.Multipliers.{refutes-is}
 use Rattle.equations.proofs.Claim.{describes-nothing, passes-all}
 use Rattle.equations.proofs.Answer.{Found, start-found, start-solves, start-none}
 use Rattle.equations.proofs.Passing.{none-passes}
@@ -39,7 +35,7 @@ module _ (m n : ℕ) (es : List Equation) (pos : 0 < m) (shaped : Shaped n es) w
   no-start : hasSolution m n es ≡ false → startOf m n es ≡ none
   no-start e = start-none m n es .1 (λ v vec t. no-solution-of m n es e v (vec, t))
 
-  start-shown : hasSolution m n es ≡ true → Solution m n es (startShown (startOf m n es))
+  pub start-shown : hasSolution m n es ≡ true → Solution m n es (startShown (startOf m n es))
   start-shown e = go (start-found m n es) (solution-of m n es e)
     where
       go : Found m n es → (v : List ℕ) × Solution m n es v → Solution m n es (startShown (startOf m n es))
@@ -119,23 +115,3 @@ no-reason m n es claim pos shaped formed = (passed, right claim formed)
     right : (claim : Claim) → Formed m n claim → T (passes m n es claim) → reasonOf m n es claim ≡ Right
     right noSolution formed t = right-none m n es pos shaped t (hasSolution m n es) refl
     right (from c ss) formed t = right-from m n es pos shaped c ss (formed .0) (formed .1) t
-
--- ---- the numbers that are shown
-
-pub says-residues : (m n : ℕ) (es : List Equation) (claim : Claim) (r : Reason) (shown : List ℕ) → Says m n es claim r shown
-    → Below m shown
-says-residues m n es claim Right shown says = rw (says .1) tt
-says-residues m n es claim Solvable shown says = vector-below m n shown (says .1 .0)
-says-residues m n es claim Unsolvable shown says = refutes-is m n es shown .0 (says .1) .below
-says-residues m n es claim (Breaks i) shown says = rw (says .1) tt
-says-residues m n es claim (Changes i l) shown says = rw (says .1) tt
-says-residues m n es claim Misses shown says = vector-below m n shown (says .1 .0)
-
-pub says-few : (k m n : ℕ) (es : List Equation) (claim : Claim) (r : Reason) (shown : List ℕ) → n ≤ k → length es ≤ k
-    → Says m n es claim r shown → length shown ≤ k
-says-few k m n es claim Right shown few held says = rw (says .1) (omega arith)
-says-few k m n es claim Solvable shown few held says = omega (arith, vector-length m n shown (says .1 .0))
-says-few k m n es claim Unsolvable shown few held says = omega (arith, refutes-is m n es shown .0 (says .1) .one-each)
-says-few k m n es claim (Breaks i) shown few held says = rw (says .1) (omega arith)
-says-few k m n es claim (Changes i l) shown few held says = rw (says .1) (omega arith)
-says-few k m n es claim Misses shown few held says = omega (arith, vector-length m n shown (says .1 .0))

@@ -33,9 +33,12 @@ unfoldable pub writtenOf : ℕ → ℕ → List Equation → Written
 writtenOf m n es = record { head = headOf m n es; len = length (behindHead m n es) }
 
 -- The same with the numbers, at the front of an array of zeros.
-unfoldable pub answerOf : ℕ → ℕ → List Equation → Answer
-answerOf m n es = record {
-  head = headOf m n es;
-  len = length (behindHead m n es);
-  numbers = over (behindHead m n es) (replicate 272 0);
+abbrev pub answerFrom : List ℕ → Answer
+answerFrom block = record {
+  head = getD block 0 0;
+  len = length (drop 1 block);
+  numbers = over (drop 1 block) (replicate 272 0);
 }
+
+unfoldable pub answerOf : ℕ → ℕ → List Equation → Answer
+answerOf m n es = answerFrom (blockOf m n es)

@@ -5,15 +5,18 @@
 --   shown-lines      and prints what the call prints
 use mathlib.Core.Path.{_≡_, sym, ap, _∙_}
 use mathlib.Core.List.{List, _∷_}
-use Prim.Native.Nat.{ℕ, _≤_}
+use Prim.Native.Nat.{ℕ, _≤_, _<_}
 use native.Mathlib.Omega.{arith}
 use borrow.Author.Tests.{ne-eqb}
 use lib.Dec.{T}
 use lib.ListN.{length, take, getD}
 use Rattle.system.specs.declared.solving.Answer.{Answer}
-use Rattle.system.specs.Block.{answerOf}
-use Rattle.system.proofs.Block.{block-vectors, block-length}
-use Rattle.ledger.specs.Ledger.{Ledger, isOpened, modulusOf, unknownsOf, equationsIn}
+use Rattle.equations.specs.Line.{scaled}
+use Rattle.system.specs.Block.{blockOf, answerFrom}
+use Rattle.system.specs.Lines.{lineBlock}
+use Rattle.system.proofs.Block.{block-vectors}
+use Rattle.system.proofs.Lines.{line-block, line-block-length}
+use Rattle.ledger.specs.Ledger.{Ledger, isOpened, modulusOf, unknownsOf, linesIn}
 use Rattle.ledger.specs.Allowed.{Allowed}
 use Rattle.ledger.specs.Calls.{answersFromTape, queries}
 use Rattle.ledger.specs.Questions.{refusalOf}
@@ -47,23 +50,32 @@ module _ (s : Sheet) (w : ℕ) {shown : Shown} (is : shown ≡ shownOf (ledgerOf
     opened : T (isOpened l)
     opened = accepted-yes l (queries (answersFromTape w)) accepted .0
 
-    allowed : Allowed (modulusOf l) (unknownsOf l) (equationsIn l)
+    allowed : Allowed (modulusOf l) (unknownsOf l) (linesIn l)
     allowed = reads-allowed s opened
 
     abbrev b : Answer
     b = shown .block
 
-    made : b ≡ answerOf (modulusOf l) (unknownsOf l) (equationsIn l)
+    made : b ≡ answerFrom (lineBlock (modulusOf l) (unknownsOf l) (linesIn l))
     made = ap (λ (z : Shown). z .block) is ∙ shown-block l w accepted
 
     pub shown-whole : shown .block .len ≤ length (shown .block .numbers)
     shown-whole = solved-whole l b made
 
+    positive : 0 < modulusOf l
+    positive = omega (arith, allowed .modulus)
+
+    -- the block of the lines with both sides times m/q
+    same-block : lineBlock (modulusOf l) (unknownsOf l) (linesIn l)
+        ≡ blockOf (modulusOf l) (unknownsOf l) (scaled (modulusOf l) (linesIn l))
+    same-block = line-block (modulusOf l) (unknownsOf l) positive (linesIn l) (allowed .moduli)
+
     module _ {n : ℕ} (same : n ≡ unknownsOf l) where
       pub shown-can : Block n (shown .block .head) (take (shown .block .len) (shown .block .numbers))
       shown-can =
-          let whole = solved-block l b made in
-          let head = ap (λ (z : List ℕ). getD z 0 0) whole in
+          let whole = solved-block l allowed b made in
+          let scaled-whole = whole ∙ same-block in
+          let head = ap (λ (z : List ℕ). getD z 0 0) scaled-whole in
           rw same
           (record {
             unknowns = allowed .unknowns;
@@ -71,16 +83,17 @@ module _ (s : Sheet) (w : ℕ) {shown : Shown} (is : shown ≡ shownOf (ledgerOf
                 omega (
                   arith,
                   ap length whole,
-                  block-length (modulusOf l) (unknownsOf l) (equationsIn l) (omega (arith, allowed .modulus)) (allowed .shaped) (allowed .equations)
+                  line-block-length (modulusOf l) (unknownsOf l) (linesIn l) positive (allowed .moduli) (allowed .shaped) (allowed .equations)
                       (allowed .unknowns),
                 );
-            largest = solved-head l b made allowed;
+            largest = solved-head l allowed b made;
             vectors =
-                rw head (omega (arith, ap length whole, block-vectors (modulusOf l) (unknownsOf l) (equationsIn l)));
+                rw head
+                (omega (arith, ap length scaled-whole, block-vectors (modulusOf l) (unknownsOf l) (scaled (modulusOf l) (linesIn l))));
           })
 
       pub shown-lines : blockLines n (shown .block .head ∷ take (shown .block .len) (shown .block .numbers))
           ≡ linesOn s (queries (answersFromTape w))
       shown-lines =
           rw same
-          (ap (blockLines (unknownsOf l)) (solved-block l b made) ∙ accepted-told l (queries (answersFromTape w)) accepted)
+          (ap (blockLines (unknownsOf l)) (solved-block l allowed b made) ∙ accepted-told l (queries (answersFromTape w)) accepted)

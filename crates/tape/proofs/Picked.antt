@@ -30,13 +30,21 @@ use Rattle.tape.proofs.OnTape.{words-length, words-first, words-taken}
 pub picks-add : (k : ℕ) → (k ≡ 3) ⊎ (k ≡ 10) → Adding ≡ pickOf k
 picks-add k either = ⊎-elim (λ is. rw is) (λ is. rw is) either
 
-pub picks-few : (k : ℕ) → (k ≡ 0) ⊎ ((k ≡ 2) ⊎ (k ≡ 4)) → Nothing ≡ pickOf k
-picks-few k few = ⊎-elim (λ is. rw is) (⊎-elim (λ is. rw is) (λ is. rw is)) few
+pub picks-few : (k : ℕ) → (k ≡ 0) ⊎ ((k ≡ 2) ⊎ ((k ≡ 4) ⊎ (k ≡ 11))) → Nothing ≡ pickOf k
+picks-few k few = ⊎-elim (λ is. rw is) (⊎-elim (λ is. rw is) (⊎-elim (λ is. rw is) (λ is. rw is))) few
 
-pub picks-none : (k : ℕ) → (k ≡ 1 → ⊥) → (k ≡ 3 → ⊥) → (k ≡ 5 → ⊥) → (k ≡ 8 → ⊥) → (k ≡ 9 → ⊥) → (k ≡ 10 → ⊥)
+pub picks-none : (k : ℕ) → (k ≡ 1 → ⊥) → (k ≡ 3 → ⊥) → (k ≡ 5 → ⊥) → (k ≡ 8 → ⊥) → (k ≡ 9 → ⊥) → (k ≡ 10 → ⊥) → (k ≡ 12 → ⊥)
     → Nothing ≡ pickOf k
-picks-none k not-1 not-3 not-5 not-8 not-9 not-10 =
-    rw (ne-eqb k 1 not-1, ne-eqb k 3 not-3, ne-eqb k 5 not-5, ne-eqb k 8 not-8, ne-eqb k 9 not-9, ne-eqb k 10 not-10)
+picks-none k not-1 not-3 not-5 not-8 not-9 not-10 not-12 =
+    rw (
+      ne-eqb k 1 not-1,
+      ne-eqb k 3 not-3,
+      ne-eqb k 5 not-5,
+      ne-eqb k 8 not-8,
+      ne-eqb k 9 not-9,
+      ne-eqb k 10 not-10,
+      ne-eqb k 12 not-12,
+    )
 
 pub picked-told : (s : Sheet) {c d : Call} {after : Sheet} {old new : List ℕ} {k : ℕ} → c ≡ d → Tells s c after old new k
     → Tells s d after old new k

@@ -8,16 +8,13 @@ use native.Mathlib.Omega.{arith}
 use lib.Dec.{T, eqb→eq}
 use lib.ListN.{length, getD}
 use lib.Seq.{take-at, drop-at}
-use Rattle.equations.specs.Equation.{Equation}
-use Rattle.equations.specs.Answer.{startOf, stepsOf}
-use Rattle.equations.specs.Multipliers.{refutes}
+use Rattle.equations.specs.Line.{Line, lineStart, lineSteps, lineRefutes}
 use Rattle.equations.specs.declared.Mark.the-variants.{Pass, Fail}
 use Rattle.equations.proofs.Vectors.{vector-length}
-use Rattle.equations.proofs.Answer.{start-solves}
-use Rattle.equations.proofs.Listed.{steps-vectors}
-use Rattle.equations.proofs.Promises.{no-start}
+use Rattle.equations.proofs.LinePromises.{line-no-start}
 use Rattle.system.specs.Claims.{vectorsWithin}
-use Rattle.system.proofs.Block.{block-some, block-none}
+use Rattle.system.specs.Lines.{lineMultipliers}
+use Rattle.system.proofs.Lines.{multipliers-refute, line-block-some, line-block-none}
 use Rattle.system.proofs.Chunks.{within-flatten}
 use Rattle.words.specs.Words.{wordOf, wordsIn}
 use Rattle.ledger.specs.Ledger.{Ledger, unopened, opened}
@@ -27,6 +24,7 @@ use Rattle.ledger.specs.Marking.{claimMark}
 use Rattle.ledger.specs.Calls.{Call, marks, answersFromTape, queries}
 use Rattle.ledger.specs.Questions.{plain}
 use Rattle.ledger.specs.History.{enter, ledgerFrom, ledger}
+use Rattle.ledger.proofs.Own.{line-vector, line-vectors}
 use Rattle.ledger.proofs.Refusals.{answers-word-plain}
 use Rattle.sheet.specs.Promises.{NothingSolves, WellFormed}
 use Rattle.sheet.specs.History.{after}
@@ -58,56 +56,59 @@ pass-or-fail : markLine Pass ≡ markLine Fail → ⊥
 unfolding lineOf
 pass-or-fail same = omega (arith, ap (λ (bytes : List ℕ). getD bytes 0 0) same)
 
-module _ (m n : ℕ) (es : List Equation) where
-  solution-printed : (c : List ℕ) → startOf m n es ≡ some c
-      → answerLines (opened m n es) ≡ line "from" c ++ stepLines (stepsOf m n es)
-  solution-printed c h =
-      let long : length c ≡ n = vector-length m n c (start-solves m n es c h .0) in
-      ap (blockLines n) (block-some m n es c h)
-      ∙ ap₂ (λ (s : List ℕ) (ss : List (List ℕ)). line "from" s ++ stepLines ss)
-      (take-at c (flatten (stepsOf m n es)) n long)
-      (ap (vectorsWithin (length (stepsOf m n es)) n) (drop-at c (flatten (stepsOf m n es)) n long)
-      ∙ within-flatten m n (stepsOf m n es) (steps-vectors m n es))
-
-  module _ (calls : List Call) (holds : ledger calls ≡ opened m n es) where
-    allowed : Allowed m n es
-    allowed = right-always (after calls) m n es (after-reads calls ∙ holds) .allowed
+module _ (m n : ℕ) (ls : List Line) where
+  module _ (calls : List Call) (holds : ledger calls ≡ opened m n ls) where
+    allowed : Allowed m n ls
+    allowed = right-always (after calls) m n ls (after-reads calls ∙ holds) .allowed
 
     positive : 0 < m
     positive = omega (arith, allowed .modulus)
 
-    refutation-printed : NothingSolves m n es
-        → (ks : List ℕ) × T (refutes m n es ks) × (answerLines (opened m n es) ≡ line "none" ks)
-    refutation-printed nothing =
-        let b = block-none m n es positive (allowed .shaped) (no-start m n es .1 nothing) in
-        (b .0, b .2, ap (blockLines n) (b .1))
+    solution-printed : (c : List ℕ) → lineStart m n ls ≡ some c
+        → answerLines (opened m n ls) ≡ line "from" c ++ stepLines (lineSteps m n ls)
+    solution-printed c h =
+        let long : length c ≡ n = vector-length m n c (line-vector m n positive ls (allowed .moduli) c h) in
+        ap (blockLines n) (line-block-some m n ls c h)
+        ∙ ap₂ (λ (s : List ℕ) (ss : List (List ℕ)). line "from" s ++ stepLines ss)
+        (take-at c (flatten (lineSteps m n ls)) n long)
+        (ap (vectorsWithin (length (lineSteps m n ls)) n) (drop-at c (flatten (lineSteps m n ls)) n long)
+        ∙ within-flatten m n (lineSteps m n ls) (line-vectors m n positive ls (allowed .moduli)))
 
-    answer-is : (w : ℕ) → T (plain w) → callLines (ledger calls) (queries (answersFromTape w)) ≡ answerLines (opened m n es)
+    refutation-printed : NothingSolves m n ls
+        → (ks : List ℕ) × T (lineRefutes m n ls ks) × (answerLines (opened m n ls) ≡ line "none" ks)
+    refutation-printed nothing =
+        let none = line-no-start m n ls .1 nothing in (
+          lineMultipliers m n ls,
+          multipliers-refute m n ls positive (allowed .moduli) (allowed .shaped) none,
+          ap (blockLines n) (line-block-none m n ls none),
+        )
+
+    answer-is : (w : ℕ) → T (plain w) → callLines (ledger calls) (queries (answersFromTape w)) ≡ answerLines (opened m n ls)
     answer-is w zero =
         ap (λ (l : Ledger). callLines l (queries (answersFromTape w))) holds
-        ∙ sym (accepted-told (opened m n es) (queries (answersFromTape w))
-        (answers-word-plain (opened m n es) refl w (eqb→eq (wordOf w .number) 0 zero)))
+        ∙ sym (accepted-told (opened m n ls) (queries (answersFromTape w))
+        (answers-word-plain (opened m n ls) refl w (eqb→eq (wordOf w .number) 0 zero)))
 
     mark-is : (ws : List ℕ) → WellFormed m n ws
-        → callLines (ledger calls) (queries (marks ws)) ≡ markLine (claimMark (opened m n es) ws)
+        → callLines (ledger calls) (queries (marks ws)) ≡ markLine (claimMark (opened m n ls) ws)
     mark-is ws well =
         ap (λ (l : Ledger). callLines l (queries (marks ws))) holds
-        ∙ sym (accepted-told (opened m n es) (queries (marks ws)) (well-accepted m n es ws well))
+        ∙ sym (accepted-told (opened m n ls) (queries (marks ws)) (well-accepted m n ls ws well))
 
-    answer-printed : (w : ℕ) → T (plain w) → AnswerPrinted m n es (callLines (ledger calls) (queries (answersFromTape w)))
+    answer-printed : (w : ℕ) → T (plain w) → AnswerPrinted m n ls (callLines (ledger calls) (queries (answersFromTape w)))
     answer-printed w zero = rw (answer-is w zero) (record { solution = solution-printed; refutation = refutation-printed })
 
     mark-printed : (ws : List ℕ) → WellFormed m n ws
-        → MarkPrinted m n es (claimFrom n (wordsIn ws)) (callLines (ledger calls) (queries (marks ws)))
+        → MarkPrinted m n ls (claimFrom n (wordsIn ws)) (callLines (ledger calls) (queries (marks ws)))
     mark-printed ws well =
-        let both = mark-tells m n es positive ws well markLine pass-or-fail in
+        let both = mark-tells m n ls positive ws well markLine pass-or-fail in
         rw (mark-is ws well) (record { pass = both .0; fail = both .1 })
 
 pub answers-printed : AnswersPrinted
-answers-printed calls m n es = answer-printed m n es calls
+answers-printed calls m n ls = answer-printed m n ls calls
 
 pub marks-printed : MarksPrinted
-marks-printed calls m n es = mark-printed m n es calls
+marks-printed calls m n ls = mark-printed m n ls calls
 
 pub class-on-tape : ClassOnTape
 class-on-tape = class-marks

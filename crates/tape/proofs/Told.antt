@@ -17,7 +17,7 @@ use lib.Dec.{eqb}
 use lib.ListN.{length}
 use Rattle.slices.specs.Over.{over}
 use Rattle.equations.specs.declared.Mark.{Mark}
-use Rattle.ledger.specs.Ledger.{Ledger, modulusOf, unknownsOf, equationsIn}
+use Rattle.ledger.specs.Ledger.{Ledger, modulusOf, unknownsOf, linesIn}
 use Rattle.ledger.specs.Marking.{claimMark}
 use Rattle.ledger.specs.Calls.{Call, Entry, opens, marks, meaningless, enters, queries}
 use Rattle.ledger.specs.Questions.{refusalOf}
@@ -63,7 +63,7 @@ module _ (s : Sheet) (e : Entry) {entered : Entered} (is : entered ≡ enteredOf
   said-holds {k} said = go (eqb (refusalOf (ledgerOf s) (enters e)) 0) refl (sym is ∙ said)
     where
       go : (b : Bool) → eqb (refusalOf (ledgerOf s) (enters e)) 0 ≡ b
-          → cond b (Holds (length (equationsIn (enter (ledgerOf s) (enters e))))) (Entered·Refused (refusalOf (ledgerOf s) (enters e))) ≡ Holds k
+          → cond b (Holds (length (linesIn (enter (ledgerOf s) (enters e))))) (Entered·Refused (refusalOf (ledgerOf s) (enters e))) ≡ Holds k
           → refusalOf (ledgerOf s) (enters e) ≡ 0
       go true is-0 h = eqb-true (refusalOf (ledgerOf s) (enters e)) 0 is-0
       go false is-0 h = let z : _≡_ {A = ℕ} 0 1 = cc in absurd (omega arith)
@@ -73,7 +73,7 @@ module _ (s : Sheet) (e : Entry) {entered : Entered} (is : entered ≡ enteredOf
   said-refused {r} said = go (eqb (refusalOf (ledgerOf s) (enters e)) 0) (sym is ∙ said)
     where
       go : (b : Bool)
-          → cond b (Holds (length (equationsIn (enter (ledgerOf s) (enters e))))) (Entered·Refused (refusalOf (ledgerOf s) (enters e)))
+          → cond b (Holds (length (linesIn (enter (ledgerOf s) (enters e))))) (Entered·Refused (refusalOf (ledgerOf s) (enters e)))
           ≡ Entered·Refused r
           → refusedLine r ≡ cond b (acceptedLines (ledgerOf s) (enters e)) (refusedLine (refusalOf (ledgerOf s) (enters e)))
       go true h = let z : _≡_ {A = ℕ} 0 1 = cc in absurd (omega arith)

@@ -2,30 +2,38 @@
 -- depends on the ledger before it. Definitions only.
 use mathlib.Core.Bool.{cond, _||_}
 use mathlib.Core.List.{List}
-use Prim.Native.Nat.{ℕ, _+_}
+use Prim.Native.Nat.{ℕ, zero, suc, _+_}
 use lib.Dec.{eqb}
 use lib.ListN.{take, drop, getD}
-use Rattle.words.specs.Words.{wordOf, modulusKind, coefficientKind, minusCoefficientKind, headKind, strikeKind, answerKind}
+use Rattle.words.specs.Words.{wordOf, modulusKind, coefficientKind, minusCoefficientKind, headKind, strikeKind, answerKind, ownModulusKind}
 use Rattle.ledger.specs.Ledger.{Ledger, unknownsOf}
 use Rattle.ledger.specs.Shapes.{claimLength}
 use Rattle.ledger.specs.Calls.{opens, adds, strikes, answersFromTape, marks, meaningless, Call, enters, queries}
 use Rattle.tape.specs.declared.picking.Pick.{Pick}
-use Rattle.tape.specs.declared.picking.Pick.the-variants.{Opening, Adding, Marking, Striking, Answering, Nothing}
+use Rattle.tape.specs.declared.picking.Pick.the-variants.{Opening, Adding, OwnAdding, Marking, Striking, Answering, Nothing}
 
--- "The first word's kind picks the call": one table. "A first word of kind 10 begins an add of n+1 words as kind 3 does".
+-- "The first word's kind picks the call": one table. "A first word of kind 10 begins an add of n+1 words as kind 3 does"; "a word of
+-- kind 12 .. begins its add".
 abbrev pub pickOf : ℕ → Pick
 pickOf kind =
     cond (eqb kind modulusKind) Opening
     (cond (eqb kind coefficientKind || eqb kind minusCoefficientKind) Adding
+    (cond (eqb kind ownModulusKind) OwnAdding
     (cond (eqb kind headKind) Marking
     (cond (eqb kind strikeKind) Striking
-    (cond (eqb kind answerKind) Answering Nothing))))
+    (cond (eqb kind answerKind) Answering Nothing)))))
+
+-- how many words an add takes that begins with a modulus of its own: it "takes n+2 words, or one when unopened", where there are 0 unknowns
+abbrev pub ownWords : ℕ → ℕ
+ownWords zero = 1
+ownWords (suc n) = suc n + 2
 
 -- "1 takes 2 words, 3 takes n+1, 5 takes 1 + n times its number; all other kinds take one, as do 3 and 5 when unopened and 5 with a
 -- number above 17.": an unopened ledger has 0 unknowns
 abbrev pub wantedBy : ℕ → Pick → ℕ → ℕ
 wantedBy n Opening number = 2
 wantedBy n Adding number = n + 1
+wantedBy n OwnAdding number = ownWords n
 wantedBy n Marking number = claimLength n number
 wantedBy n Striking number = 1
 wantedBy n Answering number = 1
@@ -38,6 +46,7 @@ wanted l w = wantedBy (unknownsOf l) (pickOf (wordOf w .kind)) (wordOf w .number
 abbrev pub callBy : Pick → ℕ → List ℕ → Call
 callBy Opening w ws = enters (opens ws)
 callBy Adding w ws = enters (adds ws)
+callBy OwnAdding w ws = enters (adds ws)
 callBy Marking w ws = queries (marks ws)
 callBy Striking w ws = enters (strikes (wordOf w .number))
 callBy Answering w ws = queries (answersFromTape w)

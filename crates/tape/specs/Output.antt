@@ -8,9 +8,9 @@ use Rattle.questions.specs.Questions.{unlessRefused}
 use Rattle.equations.specs.declared.Mark.{Mark}
 use Rattle.equations.specs.declared.Mark.the-variants.{Pass, Fail}
 use Rattle.words.specs.Words.{wordsIn}
-use Rattle.system.specs.Block.{blockOf}
+use Rattle.system.specs.Lines.{lineBlock}
 use Rattle.system.specs.Claims.{vectorsWithin}
-use Rattle.ledger.specs.Ledger.{Ledger, unopened, modulusOf, unknownsOf, equationsIn}
+use Rattle.ledger.specs.Ledger.{Ledger, unopened, modulusOf, unknownsOf, linesIn}
 use Rattle.ledger.specs.Shapes.{numberAt}
 use Rattle.ledger.specs.Marking.{claimMark}
 use Rattle.ledger.specs.Calls.{Entry, opens, adds, types, strikes, answers, answersFromTape, marks, reasons, classes, meaningless}
@@ -37,11 +37,11 @@ blockLines n (zero ∷ ks) = line "none" ks
 blockLines n (suc k ∷ xs) = line "from" (take n xs) ++ stepLines (vectorsWithin k n (drop n xs))
 
 abbrev pub answerLines : Ledger → List ℕ
-answerLines l = blockLines (unknownsOf l) (blockOf (modulusOf l) (unknownsOf l) (equationsIn l))
+answerLines l = blockLines (unknownsOf l) (lineBlock (modulusOf l) (unknownsOf l) (linesIn l))
 
 -- "with the equations then held"
 abbrev pub heldAfter : Ledger → Entry → List ℕ
-heldAfter l e = length (equationsIn (enter l (enters e))) ∷ []
+heldAfter l e = length (linesIn (enter l (enters e))) ∷ []
 
 -- "`pass`, `fail`"
 abbrev pub markLine : Mark → List ℕ

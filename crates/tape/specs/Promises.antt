@@ -9,10 +9,8 @@ use Prim.Native.Nat.{ℕ}
 use lib.Dec.{T, eqb}
 use lib.ListN.{getD}
 use Rattle.equations.specs.Lists.{every}
-use Rattle.equations.specs.Equation.{Equation}
-use Rattle.equations.specs.Answer.{startOf, stepsOf}
-use Rattle.equations.specs.Multipliers.{refutes}
 use Rattle.equations.specs.Claim.{Claim}
+use Rattle.equations.specs.Line.{Line, lineStart, lineSteps, lineRefutes}
 use Rattle.ledger.specs.Ledger.{Ledger, unopened, unknownsOf, opened}
 use Rattle.ledger.specs.Shapes.{claimFrom}
 use Rattle.words.specs.Words.{wordOf, wordsIn, headKind}
@@ -33,32 +31,32 @@ CallPrinted =
     → linesFrom unopened (before ++ (c ∷ rest))
     ≡ linesFrom unopened before ++ (callLines (ledger before) c ++ linesFrom (enter (ledger before) c) rest)
 
--- the lines of an answer for es
-pub record AnswerPrinted (m n : ℕ) (es : List Equation) (printed : List ℕ) : Type 0 where
+-- the lines of an answer for ls
+pub record AnswerPrinted (m n : ℕ) (ls : List Line) (printed : List ℕ) : Type 0 where
   -- "An answer is `from` and the n entries, then a `step` line with n entries for each step": "01's starting vector, then all of
   -- 01's steps and no others, by rising place"
-  pub solution : (start : List ℕ) → startOf m n es ≡ some start
-      → printed ≡ line "from" start ++ stepLines (stepsOf m n es)
+  pub solution : (start : List ℕ) → lineStart m n ls ≡ some start
+      → printed ≡ line "from" start ++ stepLines (lineSteps m n ls)
   -- "or `none` and the multipliers": where "no vector of residues solves all those equations"
-  pub refutation : NothingSolves m n es → (ks : List ℕ) × T (refutes m n es ks) × (printed ≡ line "none" ks)
+  pub refutation : NothingSolves m n ls → (ks : List ℕ) × T (lineRefutes m n ls ks) × (printed ≡ line "none" ks)
 
 -- after every list of calls that leads to an opened ledger, for an answer word whose number is 0
 abbrev pub AnswersPrinted : Type 0
 AnswersPrinted =
-    (calls : List Call) (m n : ℕ) (es : List Equation) → ledger calls ≡ opened m n es
-    → (w : ℕ) → T (plain w) → AnswerPrinted m n es (callLines (ledger calls) (queries (answersFromTape w)))
+    (calls : List Call) (m n : ℕ) (ls : List Line) → ledger calls ≡ opened m n ls
+    → (w : ℕ) → T (plain w) → AnswerPrinted m n ls (callLines (ledger calls) (queries (answersFromTape w)))
 
 -- `pass` and `fail`: a claim "is passed exactly when the vectors it describes are the vectors that solve all those equations, and
 -- failed otherwise"
-pub record MarkPrinted (m n : ℕ) (es : List Equation) (claim : Claim) (printed : List ℕ) : Type 0 where
-  pub pass : (printed ≡ line "pass" []) ↔ DescribesSolutions m n es claim
-  pub fail : (printed ≡ line "fail" []) ↔ (DescribesSolutions m n es claim → ⊥)
+pub record MarkPrinted (m n : ℕ) (ls : List Line) (claim : Claim) (printed : List ℕ) : Type 0 where
+  pub pass : (printed ≡ line "pass" []) ↔ DescribesSolutions m n ls claim
+  pub fail : (printed ≡ line "fail" []) ↔ (DescribesSolutions m n ls claim → ⊥)
 
 -- after every such list, for "a well-formed claim marked then"
 abbrev pub MarksPrinted : Type 0
 MarksPrinted =
-    (calls : List Call) (m n : ℕ) (es : List Equation) → ledger calls ≡ opened m n es
-    → (ws : List ℕ) → WellFormed m n ws → MarkPrinted m n es (claimFrom n (wordsIn ws)) (callLines (ledger calls) (queries (marks ws)))
+    (calls : List Call) (m n : ℕ) (ls : List Line) → ledger calls ≡ opened m n ls
+    → (ws : List ℕ) → WellFormed m n ws → MarkPrinted m n ls (claimFrom n (wordsIn ws)) (callLines (ledger calls) (queries (marks ws)))
 
 -- a head stands where it should
 abbrev pub hasHead : List ℕ → Bool

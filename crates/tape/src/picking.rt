@@ -3,18 +3,20 @@ ghost use mathlib.Core.Path.{_≡_};
 ghost use Prim.Native.Nat.{_≤_};
 ghost use Rattle.ledger.specs.Ledger.{mostUnknowns};
 ghost use Rattle.ledger.specs.Block.{longestBlock};
-ghost use Rattle.tape.specs.FirstCall.{pickOf, wantedBy};
+ghost use Rattle.tape.specs.FirstCall.{pickOf, ownWords, wantedBy};
 use asking::queries::claim_length;
 use words::kinds::ANSWER;
 use words::kinds::COEFFICIENT;
 use words::kinds::HEAD;
 use words::kinds::MINUS_COEFFICIENT;
 use words::kinds::MODULUS;
+use words::kinds::OWN_MODULUS;
 use words::kinds::STRIKE;
 
 pub enum Pick {
     Opening,
     Adding,
+    OwnAdding,
     Marking,
     Striking,
     Answering,
@@ -29,10 +31,11 @@ pub(crate) fn picked(kind: u32) -> Pick
     match kind {
         MODULUS => Pick::Opening,
         COEFFICIENT | MINUS_COEFFICIENT => Pick::Adding,
+        OWN_MODULUS => Pick::OwnAdding,
         HEAD => Pick::Marking,
         STRIKE => Pick::Striking,
         ANSWER => Pick::Answering,
-        0 | 2 | 4 | 6..=7 | 11..=15 => Pick::Nothing,
+        0 | 2 | 4 | 6..=7 | 11 | 13..=15 => Pick::Nothing,
         _ => Pick::Nothing,
     }
 }
@@ -45,9 +48,22 @@ pub(crate) fn call_length(pick: Pick, number: u32, n: usize) -> usize
     match pick {
         Pick::Opening => 2,
         Pick::Adding => n + 1,
+        Pick::OwnAdding => own_length(n),
         Pick::Marking => claim_length(number, n),
         Pick::Striking => 1,
         Pick::Answering => 1,
         Pick::Nothing => 1,
     }
+}
+
+// An add with a modulus of its own: the word of the modulus, n coefficients and a right side; on an unopened sheet, which has no unknowns,
+// the first word alone.
+fn own_length(n: usize) -> usize
+    requires { ⌜ n ≤ mostUnknowns ⌝ }
+    ensures { λ r. ⌜ (r ≡ ownWords n) × (r ≤ longestBlock) ⌝ }
+{
+    if n == 0 {
+        return 1;
+    }
+    n + 2
 }

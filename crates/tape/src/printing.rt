@@ -144,6 +144,7 @@ pub(crate) fn call(
     match pick {
         Pick::Opening => open(sheet, taken, out),
         Pick::Adding => add(sheet, taken, out),
+        Pick::OwnAdding => add(sheet, taken, out),
         Pick::Marking => mark(sheet, taken, out),
         Pick::Striking => strike(sheet, first, out),
         Pick::Answering => answer(sheet, first, out),

@@ -49,12 +49,16 @@ strikeKind = 8
 abbrev pub answerKind : ℕ
 answerKind = 9
 
--- "Kinds 10 and 11 become a negative coefficient and a negative right side". Others have no meaning.
+-- "Kinds 10 and 11 become a negative coefficient and a negative right side"
 abbrev pub minusCoefficientKind : ℕ
 minusCoefficientKind = 10
 
 abbrev pub minusRightKind : ℕ
 minusRightKind = 11
+
+-- "a word of kind 12 with q precedes the equation"
+abbrev pub ownModulusKind : ℕ
+ownModulusKind = 12
 
 -- the kinds and the numbers of words
 abbrev pub kindsOf : List Word → List ℕ

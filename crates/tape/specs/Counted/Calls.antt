@@ -1,18 +1,23 @@
 -- Every call on a tape takes a word, `wanted-some`, so that fewer words remain behind it, `behind-fewer`.
 use mathlib.Core.List.{List, _∷_}
-use Prim.Native.Nat.{ℕ, _≤_, _<_}
+use Prim.Native.Nat.{ℕ, zero, suc, _≤_, _<_}
 use native.Mathlib.Omega.{arith}
 use lib.ListN.{length, length-drop}
 use Rattle.words.specs.Words.{wordOf}
 use Rattle.ledger.specs.Ledger.{Ledger, unknownsOf}
 use Rattle.ledger.specs.Classes.{length-some}
 use Rattle.tape.specs.declared.picking.Pick.{Pick}
-use Rattle.tape.specs.declared.picking.Pick.the-variants.{Opening, Adding, Marking, Striking, Answering, Nothing}
-use Rattle.tape.specs.FirstCall.{pickOf, wantedBy, wanted, behindFirst}
+use Rattle.tape.specs.declared.picking.Pick.the-variants.{Opening, Adding, OwnAdding, Marking, Striking, Answering, Nothing}
+use Rattle.tape.specs.FirstCall.{pickOf, ownWords, wantedBy, wanted, behindFirst}
+
+some-own : (n : ℕ) → 0 < ownWords n
+some-own zero = omega arith
+some-own (suc n) = omega arith
 
 some-words : (n : ℕ) (pick : Pick) (number : ℕ) → 0 < wantedBy n pick number
 some-words n Opening number = omega arith
 some-words n Adding number = omega arith
+some-words n OwnAdding number = some-own n
 some-words n Marking number = length-some n number
 some-words n Striking number = omega arith
 some-words n Answering number = omega arith

@@ -9,7 +9,7 @@ use lib.Seq.{length-take-le}
 use Rattle.grammar.specs.Texts.{typedOf}
 use Rattle.ledger.specs.Calls.{types}
 use Rattle.sheet.specs.Record.{ledgerOf}
-use Rattle.sheet.proofs.Entering.{entry-refused, gain-opened, gain-under, gain-width, gain-accepted, modulus-some, typed-lies}
+use Rattle.sheet.proofs.Entering.{entry-refused, modulus-some, gain-fits, gain-accepted, typed-lies}
 use Rattle.sheet.proofs.Sheet.add_text.Statement.{statement}
 use Rattle.sheet.proofs.Sheet.add_text.Tie as tie
 
@@ -20,7 +20,7 @@ typing-of-requires : tie.Need-typing-of-requires
 typing-of-requires c κs =
     let s = now (c .before .before .before .args .sheet) in
     let seen = c .seen in
-    (seen .ensures .1 .0, modulus-some s (seen .ensures .0))
+    (seen .ensures .1 .0, λ opened. omega (arith, modulus-some s (seen .ensures .0) opened))
 
 returns : tie.Need-returns
 returns c =
@@ -53,11 +53,9 @@ with-line-requires c κs =
     let text = now (a .text) in
     let sees = b .before .before .seen .ensures .0 in
     let asked = b .before .typing-of in
-    let is = asked .ensures .0 (ledgerOf s) sees in (
-      gain-opened s (types text) _ refl sees (asked .result .refusal) is (b .if1 .left),
-      gain-under s (types text) _ refl sees (asked .result .refusal) is (b .if1 .left),
-      gain-width s (types text) _ refl sees (asked .result .refusal) is (b .if1 .left) (sym (slice-aggregate-with-line c)),
-    )
+    let is = asked .ensures .0 (ledgerOf s) sees in
+    gain-fits s (types text) _ refl sees (asked .result .refusal) is (b .if1 .left) _ (sees .modulus) _ (sym (slice-aggregate-with-line c))
+    (typed-lies s (typedOf text) sees (asked .result .line) (asked .ensures .1 (b .if1 .left)))
 
 add-t15 : tie.Need-add-t15
 add-t15 c = search needs
@@ -71,7 +69,8 @@ returns-2 c =
     let sees = b .before .before .seen .ensures .0 in
     let asked = b .before .typing-of in
     let is = asked .ensures .0 (ledgerOf s) sees in
-    gain-accepted s (types text) _ refl sees (asked .result .refusal) is (b .if1 .left) _
+    gain-accepted s (types text) _ refl sees (asked .result .refusal) is (b .if1 .left) _ (sees .modulus) _
+    (sym (slice-aggregate-with-line (c .before .before)))
     (typed-lies s (typedOf text) sees (asked .result .line) (asked .ensures .1 (b .if1 .left)))
     (c .before .with-line .ensures)
 

@@ -46,7 +46,7 @@ returns-2 c =
     let view = c .before .before .before .before .before .before .view .ensures .0 in
     let opens = sym (view .sees .opened) ∙ not-false _ (c .before .before .before .if1 .left) in
     let block = c .before .block-of in
-    answered-short l (now (a .buffer)) opens (omega (arith, solved-size l (block .result) (block .ensures) (of-true opens)))
+    answered-short l (now (a .buffer)) opens (omega (arith, solved-size l (reads-allowed (now (a .sheet)) (of-true opens)) (block .result) (block .ensures) (of-true opens)))
 
 array-share-prefix-numbers : tie.Need-array-share-prefix-numbers
 array-share-prefix-numbers c =
@@ -69,11 +69,11 @@ write-block-requires c κs =
     let allowed = reads-allowed (now (a .sheet)) (of-true opens) in
     let long = length-take-le (block .result .len) (block .result .numbers) (solved-whole l (block .result) (block .ensures)) in (
       (
-        solved-head l (block .result) (block .ensures) allowed,
-        (λ some. omega (arith, long, view .sees .unknowns, solved-start l (block .result) (block .ensures) some)),
+        solved-head l allowed (block .result) (block .ensures),
+        (λ some. omega (arith, long, view .sees .unknowns, solved-start l allowed (block .result) (block .ensures) some)),
         omega (arith, long),
       ),
-      solved-below l (block .result) (block .ensures) allowed,
+      solved-below l allowed (block .result) (block .ensures),
     )
 
 same-length : tie.Need-same-length
@@ -87,11 +87,12 @@ returns-3 c =
     let opens = sym (view .sees .opened) ∙ not-false _ (c .before .before .before .before .before .before .before .before .before .if1 .left) in
     let block = c .before .before .before .before .before .before .before .block-of in
     let old = now (a .buffer) in
-    let size = solved-size l (block .result) (block .ensures) (of-true opens) in
+    let allowed = reads-allowed (now (a .sheet)) (of-true opens) in
+    let size = solved-size l allowed (block .result) (block .ensures) (of-true opens) in
     let wrote = answered-wrote l old opens (omega (arith, size)) in (
       ap Wrote (sym size) ∙ wrote .0,
       c .before .before .write-block .ensures
-          ∙ ap (λ (ws : List ℕ). over ws old) (solved-words l (block .result) (block .ensures) (of-true opens)) ∙ wrote .1,
+          ∙ ap (λ (ws : List ℕ). over ws old) (solved-words l allowed (block .result) (block .ensures) (of-true opens)) ∙ wrote .1,
     )
 
 pub answer-spec : {M : Type 1} → statement M

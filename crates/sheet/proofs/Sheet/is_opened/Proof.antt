@@ -1,6 +1,6 @@
 -- `Sheet::is_opened` meets its contract: the tests of a readable sheet, one after the other. The equations lie in the cells
 -- because both limits were tested before.
-use mathlib.Core.Path.{_≡_, refl, sym, ap, subst, _∙_}
+use mathlib.Core.Path.{_≡_, refl, sym, ap, ap₂, subst, _∙_}
 use mathlib.Core.Bool.{Bool, true}
 use Prim.Native.Nat.{ℕ, _+_, _*_, _≤_}
 use native.Mathlib.Nat.{mul-le-mul}
@@ -11,11 +11,15 @@ use denote.Ref.{now}
 use lib.Dec.{leb}
 use lib.ListN.{length}
 use mir.Facts.{and-yes}
+use Rattle.questions.specs.Questions.{largestModulus}
+use Rattle.questions.proofs.Questions.{within-range}
 use Rattle.equations.specs.Multipliers.{allBelow}
+use Rattle.equations.specs.Lines.{equationsOf}
 use Rattle.equations.proofs.Truth.{true-of, of-true}
+use Rattle.lines.specs.Stored.{allFit}
 use Rattle.ledger.specs.Questions.{allowedUnknowns}
 use Rattle.sheet.specs.Record.{modulusIn}
-use Rattle.sheet.proofs.Opened.{lines-to, modulus-not, unknowns-not, equations-not, residues-decide}
+use Rattle.sheet.proofs.Opened.{lines-to, own-to, as-many, modulus-not, unknowns-not, equations-not, residues-not, moduli-decide}
 use Rattle.sheet.proofs.Sheet.is_opened.Statement.{statement}
 use Rattle.sheet.proofs.Sheet.is_opened.Tie as tie
 
@@ -92,13 +96,65 @@ all-below-requires c κs = search needs
 
 returns-4 : tie.Need-returns-4
 returns-4 c =
-    let s = now (c .before .before .before .before .before .before .before .before .before .before .before .before .before .args .sheet) in
-    let unknowns = c .before .before .before .before .before .before .before .before .before .before .wide .ensures in
-    let held = c .before .before .before .before .before .before .before .before .wide2 .ensures in
-    c .all-below .ensures
-    ∙ ap (allBelow (modulusIn s)) (lines-to s _ refl unknowns held)
-    ∙ sym (residues-decide s (sym (c .before .before .before .before .before .before .before .is-modulus .ensures) ∙ not-false _ (c .before .before .before .before .before .before .if1 .left))
-    (as-read unknowns (sym (c .before .before .before .before .before .are-unknowns .ensures) ∙ not-false _ (c .before .before .before .before .if2 .left))) (omega (arith, held)) (search needs))
+    let s = now (c .before .before .before .before .before .before .before .before .before .before .before .before .before .before .args .sheet) in
+    let n = c .before .before .before .before .before .before .before .before .before .before .before .wide .ensures in
+    let held = c .before .before .before .before .before .before .before .before .before .wide2 .ensures in
+    let modulus = sym (c .before .before .before .before .before .before .before .before .is-modulus .ensures) ∙ not-false _ (c .before .before .before .before .before .before .before .if1 .left) in
+    let unknowns = as-read n (sym (c .before .before .before .before .before .before .are-unknowns .ensures) ∙ not-false _ (c .before .before .before .before .before .if2 .left)) in
+    let below =
+    sym (ap (allBelow (modulusIn s)) (lines-to s _ refl n held)) ∙ sym (c .before .all-below .ensures) in
+    sym (residues-not s modulus unknowns (omega (arith, held)) (search needs) (below ∙ not-true _ (c .if4 .taken)))
+
+add-own-end : tie.Need-add-own-end
+add-own-end c = search needs
+
+sub-lines-fit : tie.Need-sub-lines-fit
+sub-lines-fit c = search needs
+
+part-lines-fit-start : tie.Need-part-lines-fit-start
+part-lines-fit-start c = search needs
+
+part-lines-fit-end : tie.Need-part-lines-fit-end
+part-lines-fit-end c = search needs
+
+sub-lines-fit-2 : tie.Need-sub-lines-fit-2
+sub-lines-fit-2 c = search needs
+
+part-lines-fit-start-2 : tie.Need-part-lines-fit-start-2
+part-lines-fit-start-2 c = search needs
+
+part-lines-fit-end-2 : tie.Need-part-lines-fit-end-2
+part-lines-fit-end-2 c =
+    let long : length (now (c .before .before .before .before .before .before .before .before .before .before .before .before .before .before .before .args .sheet)) ≡ 291 = search needs in
+    let fit = lines-fit (c .before .before .before .before .before .before .before .before .before .before .before .before .wide .result) (c .before .before .before .before .before .before .before .before .before .before .wide2 .result) (sym (c .before .before .before .before .before .before .before .are-unknowns .ensures) ∙ not-false _ (c .before .before .before .before .before .before .if2 .left)) (omega arith) in
+    omega (arith, fit .1)
+
+lines-fit-requires : tie.Need-lines-fit-requires
+lines-fit-requires c κs =
+    let s = now (c .before .before .before .before .before .before .before .before .before .before .before .before .before .before .before .before .args .sheet) in
+    let n = c .before .before .before .before .before .before .before .before .before .before .before .before .before .wide .result in
+    let held = c .before .before .before .before .before .before .before .before .before .before .before .wide2 .result in
+    let long : length s ≡ 291 = search needs in
+    let fit = lines-fit n held (sym (c .before .before .before .before .before .before .before .before .are-unknowns .ensures) ∙ not-false _ (c .before .before .before .before .before .before .before .if2 .left)) (omega arith) in
+    let modulus = sym (c .before .before .before .before .before .before .before .before .before .before .is-modulus .ensures) ∙ not-false _ (c .before .before .before .before .before .before .before .before .before .if1 .left) in (
+      within-range 2 (modulusIn s) largestModulus .0 (of-true modulus) .0,
+      fit .0,
+      as-many s n held (fit .0) (omega arith) long,
+    )
+
+returns-5 : tie.Need-returns-5
+returns-5 c =
+    let s = now (c .before .before .before .before .before .before .before .before .before .before .before .before .before .before .before .before .before .args .sheet) in
+    let n = c .before .before .before .before .before .before .before .before .before .before .before .before .before .before .wide .ensures in
+    let held = c .before .before .before .before .before .before .before .before .before .before .before .before .wide2 .ensures in
+    let modulus = sym (c .before .before .before .before .before .before .before .before .before .before .before .is-modulus .ensures) ∙ not-false _ (c .before .before .before .before .before .before .before .before .before .before .if1 .left) in
+    let unknowns = as-read n (sym (c .before .before .before .before .before .before .before .before .before .are-unknowns .ensures) ∙ not-false _ (c .before .before .before .before .before .before .before .before .if2 .left)) in
+    let below =
+    sym (ap (allBelow (modulusIn s)) (lines-to s _ refl n held)) ∙ sym (c .before .before .before .before .all-below .ensures) in
+    c .lines-fit .ensures
+    ∙ ap₂ (allFit (modulusIn s)) (own-to s held (omega (arith, held)))
+    (ap₂ equationsOf n (lines-to s _ refl n held))
+    ∙ sym (moduli-decide s modulus unknowns (omega (arith, held)) (search needs) (below ∙ not-false _ (c .before .before .before .if4 .left)))
 
 pub is-opened-spec : {M : Type 1} → statement M
 is-opened-spec =
@@ -121,4 +177,13 @@ is-opened-spec =
     part-all-below-start
     part-all-below-end
     all-below-requires
-    returns-4)
+    returns-4
+    add-own-end
+    sub-lines-fit
+    part-lines-fit-start
+    part-lines-fit-end
+    sub-lines-fit-2
+    part-lines-fit-start-2
+    part-lines-fit-end-2
+    lines-fit-requires
+    returns-5)

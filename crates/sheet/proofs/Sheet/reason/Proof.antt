@@ -12,7 +12,7 @@ use Rattle.slices.proofs.Over.{over-front}
 use Rattle.equations.specs.declared.Reason.{Reason}
 use Rattle.equations.specs.Vectors.{Below}
 use Rattle.words.specs.Words.{numbersOfAKind}
-use Rattle.ledger.specs.Ledger.{modulusOf, unknownsOf, equationsIn}
+use Rattle.ledger.specs.Ledger.{modulusOf, unknownsOf, linesIn}
 use Rattle.ledger.specs.Allowed.{Allowed}
 use Rattle.ledger.specs.Marking.{claimReason, reasonNumbers}
 use Rattle.ledger.specs.Calls.{marks, queries}
@@ -33,7 +33,7 @@ module _ (s : Sheet) (ws : List ℕ) {r : Reason} {k : ℕ} {explained : Reasone
   said : (refusalOf (ledgerOf s) (queries (marks ws)) ≡ 0) × (r ≡ claimReason (ledgerOf s) ws) × (k ≡ length (reasonNumbers (ledgerOf s) ws))
   said = said-gives (ledgerOf s) ws (sym found ∙ is)
 
-  allowed : Allowed (modulusOf (ledgerOf s)) (unknownsOf (ledgerOf s)) (equationsIn (ledgerOf s))
+  allowed : Allowed (modulusOf (ledgerOf s)) (unknownsOf (ledgerOf s)) (linesIn (ledgerOf s))
   allowed = reads-allowed s (mark-opened (ledgerOf s) ws (said .0))
 
   few : k ≤ 16

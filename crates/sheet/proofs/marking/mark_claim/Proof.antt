@@ -10,6 +10,7 @@ use Rattle.asking.specs.Sees.{claimRoom}
 use Rattle.sheet.specs.declared.marking.Marked.the-variants.{Gets}
 use Rattle.sheet.specs.Record.{ledgerOf}
 use Rattle.sheet.proofs.Few.{unknowns-few}
+use Rattle.sheet.proofs.Reading.{reads-allowed}
 use Rattle.sheet.proofs.MarkGiven.{marked-refused, mark-opened, mark-end, mark-claimed, marked-as}
 use Rattle.sheet.proofs.marking.mark_claim.Statement.{statement}
 use Rattle.sheet.proofs.marking.mark_claim.Tie as tie
@@ -110,7 +111,7 @@ returns-2 c =
     let mark = c .before .before .before .mark in (
       ap (λ b. Gets (cond b Pass Fail)) (sym (c .if2 .taken))
           ∙ marked-as (ledgerOf s) ws accepted (unknowns-few s) (replicate claimRoom 0) (asked .1) sees (c .before .before .before .before .before .before .before .before .wide .result)
-          (c .before .before .before .before .before .before .before .before .wide .ensures) _ (z .pre .0 .equations (mark-opened (ledgerOf s) ws accepted)) (mark .result) (mark .ensures .0),
+          (c .before .before .before .before .before .before .before .before .wide .ensures) (reads-allowed s (mark-opened (ledgerOf s) ws accepted)) _ (z .pre .0 .equations (mark-opened (ledgerOf s) ws accepted)) (mark .result) (mark .ensures .0),
       mark .ensures .1,
     )
 
@@ -128,7 +129,7 @@ returns-3 c =
     let mark = c .before .before .before .mark in (
       ap (λ b. Gets (cond b Pass Fail)) (sym (c .if2 .left))
           ∙ marked-as (ledgerOf s) ws accepted (unknowns-few s) (replicate claimRoom 0) (asked .1) sees (c .before .before .before .before .before .before .before .before .wide .result)
-          (c .before .before .before .before .before .before .before .before .wide .ensures) _ (z .pre .0 .equations (mark-opened (ledgerOf s) ws accepted)) (mark .result) (mark .ensures .0),
+          (c .before .before .before .before .before .before .before .before .wide .ensures) (reads-allowed s (mark-opened (ledgerOf s) ws accepted)) _ (z .pre .0 .equations (mark-opened (ledgerOf s) ws accepted)) (mark .result) (mark .ensures .0),
       mark .ensures .1,
     )
 

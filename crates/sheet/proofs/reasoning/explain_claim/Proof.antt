@@ -7,6 +7,7 @@ use lib.ListN.{replicate}
 use Rattle.asking.specs.Sees.{claimRoom}
 use Rattle.sheet.specs.Record.{ledgerOf}
 use Rattle.sheet.proofs.Few.{unknowns-few}
+use Rattle.sheet.proofs.Reading.{reads-allowed}
 use Rattle.sheet.proofs.MarkGiven.{mark-opened, mark-end, mark-claimed, explained-as}
 use Rattle.sheet.proofs.Reasoned.{explained-refused}
 use Rattle.sheet.proofs.reasoning.explain_claim.Statement.{statement}
@@ -105,7 +106,7 @@ returns-2 c =
     let accepted = sym (asked .0 (ledgerOf s) sees) ∙ c .before .before .before .before .before .before .before .before .if1 .left in
     let head = c .before .before .before .before .before .before .before .wide in
     let found = c .before .before .explain in
-    explained-as (ledgerOf s) ws accepted (unknowns-few s) (replicate claimRoom 0) (asked .1) sees (head .result) (head .ensures) _
+    explained-as (ledgerOf s) ws accepted (unknowns-few s) (replicate claimRoom 0) (asked .1) sees (head .result) (head .ensures) (reads-allowed s (mark-opened (ledgerOf s) ws accepted)) _
     (z .pre .0 .equations (mark-opened (ledgerOf s) ws accepted)) (found .result) (now (z .args .shown)) (found .ensures .0) (found .ensures .1)
 
 pub explain-claim-spec : {M : Type 1} → statement M

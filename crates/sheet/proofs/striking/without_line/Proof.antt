@@ -1,9 +1,11 @@
--- `striking::without_line` meets its contract: the lines behind the place are moved up to it. They lie in the cells, since the place
--- does.
+-- `striking::without_line` meets its contract: the lines behind the place are moved up to it, and so are their moduli. Both lie there, since
+-- the place does.
+use mathlib.Core.Path.{refl, sym, ap, subst}
+use Prim.Native.Nat.{ℕ, _+_, _-_, _<_}
 use native.Mathlib.Omega.{arith}
 use borrow.Author.Needs.{needs}
 use denote.Ref.{now}
-use Rattle.sheet.proofs.Cells.{whole, width-small, lines-within, place-within, line-behind, moving-fits, moved-up}
+use Rattle.sheet.proofs.Cells.{whole, width-small, held-small, lines-within, place-within, line-behind, moving-fits, between-long, own-moving-fits, again-long, moved-length, moved-up}
 use Rattle.sheet.proofs.striking.without_line.Statement.{statement}
 use Rattle.sheet.proofs.striking.without_line.Tie as tie
 
@@ -65,22 +67,69 @@ move-up-requires c κs =
     let z = c .before .before .before .before .before .before in
     moving-fits (now (z .args .sheet)) (z .pre .0) (c .before .wide2 .ensures) (c .before .before .wide .ensures) (z .args .place) (z .pre .1)
 
+add-own : tie.Need-add-own
+add-own c =
+    let z = c .before .before .before .before .before .before .before .before .before in omega (arith, z .pre .1, held-small (now (z .args .sheet)) (z .pre .0))
+
+sub-move-up-4 : tie.Need-sub-move-up-4
+sub-move-up-4 c =
+    let z = c .before .before .before .before .before .before .before .before .before in
+    let s = now (z .args .sheet) in
+    omega (
+      arith,
+      z .pre .1,
+      held-small s (z .pre .0),
+      between-long s (z .pre .0) (c .before .before .before .before .wide2 .ensures) (c .before .before .before .before .before .wide .ensures) (z .args .place) (z .pre .1) (c .before .before .move-up .ensures),
+    )
+
+mul-move-up-2 : tie.Need-mul-move-up-2
+mul-move-up-2 c = omega (arith, sub-move-up-4 c)
+
+part-move-up-start-2 : tie.Need-part-move-up-start-2
+part-move-up-start-2 c = sub-move-up-4 c
+
+part-move-up-end-2 : tie.Need-part-move-up-end-2
+part-move-up-end-2 c = search needs
+
+wide-requires-3 : tie.Need-wide-requires-3
+wide-requires-3 c κs = search needs
+
+sub-move-up-5 : tie.Need-sub-move-up-5
+sub-move-up-5 c = search needs
+
+sub-move-up-6 : tie.Need-sub-move-up-6
+sub-move-up-6 c = search needs
+
+move-up-requires-2 : tie.Need-move-up-requires-2
+move-up-requires-2 c κs =
+    let z = c .before .before .before .before .before .before .before .before .before .before .before in
+    own-moving-fits (now (z .args .sheet)) (z .pre .0) (c .before .before .before .before .before .before .wide2 .ensures) (c .before .before .before .before .before .before .before .wide .ensures) (z .args .place) (z .pre .1) (c .before .before .before .before .move-up .ensures)
+    (3 + z .args .place) (c .wide3 .result - z .args .place - 1) refl (ap (λ (k : ℕ). k - z .args .place - 1) (c .wide3 .ensures))
+
 sub-sheet : tie.Need-sub-sheet
 sub-sheet c = search needs
 
 slice-write-sheet : tie.Need-slice-write-sheet
 slice-write-sheet c =
-    let z = c .before .before .before .before .before .before .before .before .before in
-    let long = whole (now (z .args .sheet)) (z .pre .0) in search needs
+    let z = c .before .before .before .before .before .before .before .before .before .before .before .before .before .before in
+    let held = c .before .before .before .wide3 in
+    subst (λ (k : ℕ). 2 < k)
+    (sym (again-long (now (z .args .sheet)) (z .pre .0) (c .before .before .before .before .before .before .before .before .before .wide2 .ensures) (c .before .before .before .before .before .before .before .before .before .before .wide .ensures) (z .args .place) (z .pre .1) (c .before .before .before .before .before .before .before .move-up .ensures)
+    (3 + z .args .place) (held .result - z .args .place - 1) refl (ap (λ (k : ℕ). k - z .args .place - 1) (held .ensures)) (c .before .before .move-up2 .ensures))) (omega arith)
 
 same-length : tie.Need-same-length
-same-length c = search needs
+same-length c =
+    let z = c .before .before .before .before .before .before .before .before .before .before .before .before .before .before in
+    let held = c .before .before .before .wide3 in
+    moved-length (now (z .args .sheet)) (z .pre .0) (c .before .before .before .before .before .before .before .before .before .wide2 .ensures) (c .before .before .before .before .before .before .before .before .before .before .wide .ensures) (z .args .place) (z .pre .1) (c .before .before .before .before .before .before .before .move-up .ensures)
+    (3 + z .args .place) (held .result - z .args .place - 1) refl (ap (λ (k : ℕ). k - z .args .place - 1) (held .ensures)) (c .before .before .move-up2 .ensures)
 
 returns : tie.Need-returns
 returns c =
-    let z = c .before .before .before .before .before .before .before .before .before in
-    moved-up (now (z .args .sheet)) (z .pre .0) (c .before .before .before .before .wide2 .ensures) (c .before .before .before .before .before .wide .ensures) (z .args .place) (z .pre .1)
-    (c .before .before .move-up .ensures)
+    let z = c .before .before .before .before .before .before .before .before .before .before .before .before .before .before in
+    let held = c .before .before .before .wide3 in
+    moved-up (now (z .args .sheet)) (z .pre .0) (c .before .before .before .before .before .before .before .before .before .wide2 .ensures) (c .before .before .before .before .before .before .before .before .before .before .wide .ensures) (z .args .place) (z .pre .1) (c .before .before .before .before .before .before .before .move-up .ensures)
+    (3 + z .args .place) (held .result - z .args .place - 1) refl (ap (λ (k : ℕ). k - z .args .place - 1) (held .ensures)) (c .before .before .move-up2 .ensures)
 
 pub without-line-spec : {M : Type 1} → statement M
 without-line-spec =
@@ -101,6 +150,15 @@ without-line-spec =
     sub-move-up-2
     sub-move-up-3
     move-up-requires
+    add-own
+    mul-move-up-2
+    sub-move-up-4
+    part-move-up-start-2
+    part-move-up-end-2
+    wide-requires-3
+    sub-move-up-5
+    sub-move-up-6
+    move-up-requires-2
     sub-sheet
     slice-write-sheet
     same-length

@@ -20,23 +20,29 @@ add-requires c κs = search needs
 enum-told-3 : tie.Need-enum-told-3
 enum-told-3 c = search needs
 
-mark-requires : tie.Need-mark-requires
-mark-requires c κs = search needs
+add-requires-2 : tie.Need-add-requires-2
+add-requires-2 c κs = search needs
 
 enum-told-4 : tie.Need-enum-told-4
 enum-told-4 c = search needs
 
-strike-requires : tie.Need-strike-requires
-strike-requires c κs = search needs
+mark-requires : tie.Need-mark-requires
+mark-requires c κs = search needs
 
 enum-told-5 : tie.Need-enum-told-5
 enum-told-5 c = search needs
 
-answer-requires : tie.Need-answer-requires
-answer-requires c κs = search needs
+strike-requires : tie.Need-strike-requires
+strike-requires c κs = search needs
 
 enum-told-6 : tie.Need-enum-told-6
 enum-told-6 c = search needs
+
+answer-requires : tie.Need-answer-requires
+answer-requires c κs = search needs
+
+enum-told-7 : tie.Need-enum-told-7
+enum-told-7 c = search needs
 
 meaningless-requires : tie.Need-meaningless-requires
 meaningless-requires c κs = search needs
@@ -63,7 +69,7 @@ same-length-3 c = search needs
 returns-3 : tie.Need-returns-3
 returns-3 c =
     let a = c .before .before .before .before .before .before .before .before .before .args in
-    picked-told (now (a .sheet)) (picked-call (a .first) (now (a .taken)) (c .before .before .before .before .before .enum-told3 .given .1)) (c .before .before .mark .ensures)
+    picked-told (now (a .sheet)) (picked-call (a .first) (now (a .taken)) (c .before .before .before .before .before .enum-told3 .given .1)) (c .before .before .add2 .ensures)
 
 same-length-4 : tie.Need-same-length-4
 same-length-4 c = search needs
@@ -71,7 +77,7 @@ same-length-4 c = search needs
 returns-4 : tie.Need-returns-4
 returns-4 c =
     let a = c .before .before .before .before .before .before .before .before .before .args in
-    picked-told (now (a .sheet)) (picked-call (a .first) (now (a .taken)) (c .before .before .before .before .before .enum-told4 .given .1)) (c .before .before .strike .ensures)
+    picked-told (now (a .sheet)) (picked-call (a .first) (now (a .taken)) (c .before .before .before .before .before .enum-told4 .given .1)) (c .before .before .mark .ensures)
 
 same-length-5 : tie.Need-same-length-5
 same-length-5 c = search needs
@@ -79,7 +85,7 @@ same-length-5 c = search needs
 returns-5 : tie.Need-returns-5
 returns-5 c =
     let a = c .before .before .before .before .before .before .before .before .before .args in
-    picked-told (now (a .sheet)) (picked-call (a .first) (now (a .taken)) (c .before .before .before .before .before .enum-told5 .given .1)) (c .before .before .answer .ensures)
+    picked-told (now (a .sheet)) (picked-call (a .first) (now (a .taken)) (c .before .before .before .before .before .enum-told5 .given .1)) (c .before .before .strike .ensures)
 
 same-length-6 : tie.Need-same-length-6
 same-length-6 c = search needs
@@ -87,7 +93,15 @@ same-length-6 c = search needs
 returns-6 : tie.Need-returns-6
 returns-6 c =
     let a = c .before .before .before .before .before .before .before .before .before .args in
-    picked-told (now (a .sheet)) (picked-call (a .first) (now (a .taken)) (c .before .before .before .before .before .enum-told6 .given .1)) (c .before .before .meaningless .ensures)
+    picked-told (now (a .sheet)) (picked-call (a .first) (now (a .taken)) (c .before .before .before .before .before .enum-told6 .given .1)) (c .before .before .answer .ensures)
+
+same-length-7 : tie.Need-same-length-7
+same-length-7 c = search needs
+
+returns-7 : tie.Need-returns-7
+returns-7 c =
+    let a = c .before .before .before .before .before .before .before .before .before .args in
+    picked-told (now (a .sheet)) (picked-call (a .first) (now (a .taken)) (c .before .before .before .before .before .enum-told7 .given .1)) (c .before .before .meaningless .ensures)
 
 pub call-spec : {M : Type 1} → statement M
 call-spec =
@@ -98,12 +112,14 @@ call-spec =
     enum-told-2
     add-requires
     enum-told-3
-    mark-requires
+    add-requires-2
     enum-told-4
-    strike-requires
+    mark-requires
     enum-told-5
-    answer-requires
+    strike-requires
     enum-told-6
+    answer-requires
+    enum-told-7
     meaningless-requires
     same-length
     returns
@@ -116,4 +132,6 @@ call-spec =
     same-length-5
     returns-5
     same-length-6
-    returns-6)
+    returns-6
+    same-length-7
+    returns-7)
