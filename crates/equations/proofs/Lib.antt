@@ -13,6 +13,7 @@ pub mod Claim
 pub mod Combine
 pub mod Listed
 pub mod Closed
+pub mod Sets
 pub mod Steps
 pub mod Ranges
 pub mod Writing
@@ -27,7 +28,6 @@ pub mod Places
 pub mod Multipliers
 pub mod Special
 pub mod Promises
-pub mod Sets
 pub mod Scaled
 pub mod LineAnswer
 pub mod LineReasons

@@ -15,10 +15,12 @@ use mir.Facts.{and-yes, yes-and}
 use Rattle.equations.specs.Lists.{first}
 use Rattle.equations.specs.Vectors.{Vector, Before, First, vectors}
 use Rattle.equations.specs.Equation.{Equation, solves, homogeneous}
-use Rattle.equations.specs.Answer.{leadsAt, stepAt, andThen, stepsFrom, stepsOf}
+use Rattle.equations.specs.Answer.{leadsAt, andThen, stepsOf}
+use Rattle.equations.specs.Sets.{stepsAmongFrom}
 use Rattle.equations.proofs.Truth.{false-of, of-false}
 use Rattle.equations.proofs.First.{first-none}
 use Rattle.equations.proofs.Search.{Search, search-vectors, first-of}
+use Rattle.equations.proofs.Sets.{steps-among}
 use Rattle.equations.proofs.Closed.{headTest}
 
 -- the test of the step at place j
@@ -69,35 +71,23 @@ module _ (m n j : ℕ) (p : List ℕ → Bool) (pos : 0 < m) where
 
 -- ---- 01's steps
 
--- the steps at the k places from j on
-abbrev stepsAlong : ℕ → ℕ → (List ℕ → Bool) → ℕ → ℕ → List (List ℕ)
-stepsAlong m n p j zero = []
-stepsAlong m n p j (suc k) = andThen (first (stepTest p j) (vectors m n)) (stepsAlong m n p (suc j) k)
-
 then-map : (o : Option (List ℕ)) (ss : List (List ℕ))
     → andThen (Option·map zeroFirst o) (map zeroFirst ss) ≡ map zeroFirst (andThen o ss)
 then-map none ss = refl
 then-map (some s) ss = refl
 
-along-shift : (m n : ℕ) (p : List ℕ → Bool) → 0 < m → (j k : ℕ)
-    → stepsAlong m (suc n) p (suc j) k ≡ map zeroFirst (stepsAlong m n (λ v. p (0 ∷ v)) j k)
-along-shift m n p pos j zero = refl
-along-shift m n p pos j (suc k) =
-    ap₂ andThen (step-shift m n j p pos) (along-shift m n p pos (suc j) k)
-    ∙ then-map (first (stepTest (λ v. p (0 ∷ v)) j) (vectors m n)) (stepsAlong m n (λ v. p (0 ∷ v)) (suc j) k)
+from-shift : (m n : ℕ) (p : List ℕ → Bool) → 0 < m → (j k : ℕ)
+    → stepsAmongFrom m (suc n) p (suc j) k ≡ map zeroFirst (stepsAmongFrom m n (λ v. p (0 ∷ v)) j k)
+from-shift m n p pos j zero = refl
+from-shift m n p pos j (suc k) =
+    ap₂ andThen (step-shift m n j p pos) (from-shift m n p pos (suc j) k)
+    ∙ then-map (first (stepTest (λ v. p (0 ∷ v)) j) (vectors m n)) (stepsAmongFrom m n (λ v. p (0 ∷ v)) (suc j) k)
 
-along-in : (m n : ℕ) (p : List ℕ → Bool) → 0 < m → stepsAlong m n p 0 n ≡ stepsIn m n p
-along-in m zero p pos = refl
-along-in m (suc n) p pos =
+from-in : (m n : ℕ) (p : List ℕ → Bool) → 0 < m → stepsAmongFrom m n p 0 n ≡ stepsIn m n p
+from-in m zero p pos = refl
+from-in m (suc n) p pos =
     ap (andThen (first (headTest p) (vectors m (suc n))))
-    (along-shift m n p pos 0 n ∙ ap (map zeroFirst) (along-in m n (λ v. p (0 ∷ v)) pos))
-
-from-along : (m n : ℕ) (es : List Equation) (j k : ℕ)
-    → stepsFrom m n es j k ≡ stepsAlong m n (solves m (homogeneous es)) j k
-unfolding stepAt
-from-along m n es j zero = refl
-from-along m n es j (suc k) = ap (andThen (stepAt m n es j)) (from-along m n es (suc j) k)
+    (from-shift m n p pos 0 n ∙ ap (map zeroFirst) (from-in m n (λ v. p (0 ∷ v)) pos))
 
 pub steps-of-in : (m n : ℕ) (es : List Equation) → 0 < m → stepsOf m n es ≡ stepsIn m n (solves m (homogeneous es))
-unfolding stepsOf
-steps-of-in m n es pos = from-along m n es 0 n ∙ along-in m n (solves m (homogeneous es)) pos
+steps-of-in m n es pos = steps-among m n es ∙ from-in m n (solves m (homogeneous es)) pos

@@ -25,7 +25,8 @@ use Rattle.sheet.specs.Record.{Sheet, cellsAt, cellsIn, ledgerOf}
 abbrev pub linesTo : ℕ → Sheet → List ℕ
 linesTo end s = take (end - cellsAt) (cellsIn s)
 
--- what the questions see; and of an opened sheet where the cells of its lines end: these lines, each with both sides times m/q, are a system mod m
+-- what the questions see; and of an opened sheet where the cells of its lines end: with both sides times m/q, the lines are a system
+-- mod m
 pub record Views (s : Sheet) (view : View) : Type 0 where
   pub sees : Sees (ledgerOf s) (view .seen)
   pub begins : cellsAt ≤ view .end
