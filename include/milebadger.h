@@ -62,11 +62,11 @@
 extern "C" {
 #endif
 
-/* This header's version: 10,000 times its first number, 100 times its second and its third; 20300 is 2.3.0. The header
+/* This header's version: 10,000 times its first number, 100 times its second and its third; 20400 is 2.4.0. The header
  * goes with its library. As long as the first number is the same, a sheet keeps its size and the calls keep their
  * arguments; a program that loads the shared library can ask for that when it starts:
  * milebadger_version() / 10000 == MILEBADGER_VERSION / 10000. */
-#define MILEBADGER_VERSION 20300
+#define MILEBADGER_VERSION 20400
 
 /* The library's version.
  *
@@ -96,6 +96,7 @@ uint32_t milebadger_version(void);
 #define MILEBADGER_REFUSED_NOT_LINEAR (-13)
 #define MILEBADGER_REFUSED_CLAIMS (-14)
 #define MILEBADGER_REFUSED_OWN_MODULUS (-15)
+#define MILEBADGER_REFUSED_PLACE (-16)
 
 /* What a result says, in plain English: "done" where the call was made, else why it was refused. */
 static inline const char *milebadger_sentence(int64_t result)
@@ -104,7 +105,7 @@ static inline const char *milebadger_sentence(int64_t result)
         return "done";
     switch (result) {
     case MILEBADGER_REFUSED_SHAPE:
-        return "wrong shape: not what this call takes, not as much of it, or a place other than 0";
+        return "wrong shape: not what this call takes, or not as much of it";
     case MILEBADGER_REFUSED_MODULUS:
         return "the modulus is below 2 or too large";
     case MILEBADGER_REFUSED_UNKNOWNS:
@@ -133,6 +134,8 @@ static inline const char *milebadger_sentence(int64_t result)
         return "the class has more than 64 claims";
     case MILEBADGER_REFUSED_OWN_MODULUS:
         return "the equation's own modulus is below 2 or does not divide the sheet's";
+    case MILEBADGER_REFUSED_PLACE:
+        return "the place is beyond the equations that are held";
     default:
         return "no result of this library";
     }
@@ -141,10 +144,11 @@ static inline const char *milebadger_sentence(int64_t result)
 /* Words: the kind in the top 4 bits, the number in the low 28. And the number of a word.
  *
  * Coefficients and right sides below 0 have words of their own: MILEBADGER_MINUS_RIGHT(2) is a right side of minus 2. An
- * equation that is meant mod 3 on a sheet mod 12 has MILEBADGER_OWN_MODULUS(3) in front, as milebadger_add says. A
- * word's number has no sign: one below 0 or above MILEBADGER_LARGEST_NUMBER makes a word of another kind or with another
- * number. In C11 and later, such a constant does not compile. Numbers that are known only when the program runs are not
- * looked at, nor any in C99 and C++. Each macro evaluates its argument once, and is a constant where that is one. */
+ * equation that is meant mod 3 on a sheet mod 12 has MILEBADGER_OWN_MODULUS(3) in front, as milebadger_add says. On tape
+ * MILEBADGER_STRIKE strikes the last equation, and MILEBADGER_STRIKE_AT(2) the second. A word's number has no sign: one
+ * below 0 or above MILEBADGER_LARGEST_NUMBER makes a word of another kind or with another number. In C11 and later, such a
+ * constant does not compile. Numbers that are known only when the program runs are not looked at, nor any in C99 and C++.
+ * Each macro evaluates its argument once, and is a constant where that is one. */
 #define MILEBADGER_MODULUS(m) MILEBADGER_WORD(1, m)
 #define MILEBADGER_UNKNOWNS(n) MILEBADGER_WORD(2, n)
 #define MILEBADGER_COEFFICIENT(a) MILEBADGER_WORD(3, a)
@@ -152,6 +156,7 @@ static inline const char *milebadger_sentence(int64_t result)
 #define MILEBADGER_HEAD(h) MILEBADGER_WORD(5, h)
 #define MILEBADGER_ENTRY(x) MILEBADGER_WORD(6, x)
 #define MILEBADGER_STRIKE MILEBADGER_WORD(8, 0)
+#define MILEBADGER_STRIKE_AT(place) MILEBADGER_WORD(8, place)
 #define MILEBADGER_ANSWER MILEBADGER_WORD(9, 0)
 #define MILEBADGER_MINUS_COEFFICIENT(a) MILEBADGER_WORD(10, a)
 #define MILEBADGER_MINUS_RIGHT(b) MILEBADGER_WORD(11, b)
@@ -238,11 +243,14 @@ int64_t milebadger_add(milebadger_sheet *sheet, const uint32_t *words, size_t wo
  * measured is 191,000 bytes, for 256 opening brackets or 256 minus signs; 126 pairs of brackets take 95,000. */
 int64_t milebadger_add_text(milebadger_sheet *sheet, const uint8_t *text, size_t text_len);
 
-/* Strikes the last equation. `place` is 0: another place is refused, until a later version gives it a meaning.
+/* Strikes the equation at a place: 1 for the first, and 0 for the last. Those behind it close up in order, each with its
+ * own modulus, so that the third is the second once the second is struck. Answers, marks and reasons are then those for
+ * the equations left.
  *
- * Asks     Opened? If not, -4.  place equal to 0? If not, -1.  An equation there? If not, -7.
+ * Asks     Opened? If not, -4.  Any equation held? If not, -7, whatever the place.  place at most the number of equations
+ *          held? If not, -16.
  * Writes   the sheet.
- * Returns  how many equations are then held, 0 to 15; or -4, -1, -7. */
+ * Returns  how many equations are then held, 0 to 15; or -4, -7, -16. */
 int64_t milebadger_strike(milebadger_sheet *sheet, uint32_t place);
 
 /* The answer to the equations that are held, each mod its own modulus. With none, every vector is a solution.
@@ -337,7 +345,8 @@ int64_t milebadger_reason(const milebadger_sheet *sheet, const uint32_t *words, 
  *     n times COEFFICIENT(a), RIGHT(b)    added k            adds an equation, 16 at most; k are then held. For minus a
  *                                                            MINUS_COEFFICIENT(a), for minus b MINUS_RIGHT(b)
  *     OWN_MODULUS(q), then such words     added k            adds an equation mod q, a divisor of m
- *     STRIKE                              struck k           takes the last equation off; k are then held
+ *     STRIKE, or STRIKE_AT(place)         struck k           takes the last equation off, or that at a place, 1 for the
+ *                                                            first; k are then held
  *     ANSWER                              from .., step ..   the starting vector, then each step, n entries each;
  *                                         or none ..         or a multiplier for each equation
  *     HEAD(h), h times n times ENTRY(x)   pass, or fail      marks a claim: h is 0 for "no solution", or counts a
@@ -354,11 +363,11 @@ int64_t milebadger_reason(const milebadger_sheet *sheet, const uint32_t *words, 
  * the end of the tape is refused with 1, and so is a first word of another kind, RIGHT and MINUS_RIGHT among them, which
  * takes one word. Bytes left over behind the last word give `refused 9` as the last line.
  *
- *     refused  1  wrong shape, or an ANSWER or STRIKE with a number other than 0   5  there are 16 equations
- *              2  m is not 2..65,535                                               6  an entry is not below m
- *              3  n is not 1..16                                                   7  no equation to strike
- *              4  not opened                                                       9  1 to 3 bytes left over
- *             15  q is below 2 or does not divide m
+ *     refused  1  wrong shape, or an ANSWER with a number other than 0   6  an entry is not below m
+ *              2  m is not 2..65,535                                     7  no equation to strike
+ *              3  n is not 1..16                                         9  1 to 3 bytes left over
+ *              4  not opened                                            15  q is below 2 or does not divide m
+ *              5  there are 16 equations                                16  a place beyond the equations held
  *
  * Asks     tape_len at most 65,536? If not, -10.
  * Needs    out_len at least the length of all lines together. MILEBADGER_LINES_ROOM(tape_len) is enough for every tape.

@@ -156,7 +156,7 @@ pub fn all_refusals() -> Tally {
         ("open", &[1, 2, 3]),
         ("add", &[4, 1, 15, 5]),
         ("add text", &[4, 11, 12, 13, 5]),
-        ("strike", &[4, 1, 7]),
+        ("strike", &[4, 7, 16]),
         ("answer", &[4, 8]),
         ("mark", &[4, 1, 6]),
         ("class", &[4, 14, 8]),
@@ -303,8 +303,7 @@ pub fn random_act(random: &mut Random, ledger: &Ledger, filling: bool) -> Act {
     match choice {
         0 => Act::Open(exercises::opening(random)),
         1 if *ledger == Ledger::Unopened => Act::Open(exercises::opening(random)),
-        1..=3 => Act::Strike(0),
-        4 => Act::Strike(place(random)),
+        1..=4 => Act::Strike(place(random, system.equations.len())),
         5..=9 => answer(buffer_length(random, system)),
         10..=11 => Act::MarkBlock,
         12..=17 => Act::Mark(exercises::claim(random, system)),
@@ -324,14 +323,17 @@ pub fn random_act(random: &mut Random, ledger: &Ledger, filling: bool) -> Act {
     }
 }
 
-/// Places at which there is never anything to strike; as the number of a word, some of them would be 0.
-pub const WRONG_PLACES: [u32; 6] = [1, 15, 1 << 16, 1 << 28, 8 << 28, u32::MAX];
+/// Places beyond the lines of every sheet; the low 8, 16 or 28 bits of some are 0, or the place of a line.
+pub const FAR_PLACES: [u32; 8] = [17, (1 << 8) + 1, 1 << 16, (1 << 28) - 1, 1 << 28, (1 << 28) + 1, 1 << 31, u32::MAX];
 
-fn place(random: &mut Random) -> u32 {
-    match random.below(4) {
-        0 => 0,
-        1 => random.bits() as u32,
-        _ => pick(random, &WRONG_PLACES),
+/// A place on a sheet that holds so many lines: mostly one of theirs, or 0; the one behind them, or any.
+pub fn place(random: &mut Random, held: usize) -> u32 {
+    match random.below(12) {
+        0 => held as u32 + 1,
+        1 => pick(random, &FAR_PLACES),
+        2 => random.any_length(),
+        3..=5 => 0,
+        _ => 1 + random.below(held.max(1) as u64) as u32,
     }
 }
 

@@ -11,7 +11,7 @@ mod shown;
 mod spelling;
 
 use acts::{add, add_own, all_refusals, answer, answered, entering, expect, full_size_system, last, mark, open, outcomes};
-use acts::{random_act, random_system, Tally, WRONG_PLACES};
+use acts::{random_act, random_system, Tally};
 use exercises::{chance, pick};
 use face::LONGEST_BLOCK;
 use ledger::{Call, Ledger};
@@ -273,20 +273,6 @@ fn a_refused_opening_keeps_the_sheet_and_an_accepted_one_empties_it() {
         let expected = [Outcome::Holds(0), Outcome::Wrote(7), Outcome::Refused(7)];
         assert_eq!(found[found.len() - 3..], expected, "{system:?} (seed {})", random.seed);
     }
-}
-
-#[test]
-fn a_strike_asks_for_an_opened_sheet_then_for_place_0_then_for_an_equation() {
-    let places: Vec<u32> = (0..32).map(|bit| 1 << bit).chain(WRONG_PLACES).collect();
-    for place in places {
-        assert_eq!(last(&[Act::Strike(place)]), Outcome::Refused(4), "{place:x}");
-        assert_eq!(last(&[open(5, 2), Act::Strike(place)]), Outcome::Refused(1), "{place:x}");
-        let acts = [open(5, 2), add(&[1, 2, 3]), Act::Strike(place), Act::Strike(0), Act::Strike(place), Act::Strike(0)];
-        let expected = [Outcome::Refused(1), Outcome::Holds(0), Outcome::Refused(1), Outcome::Refused(7)];
-        assert_eq!(outcomes(&acts)[2..], expected, "{place:x}");
-    }
-    let expected = [Outcome::Refused(4), Outcome::Holds(0), Outcome::Refused(7)];
-    assert_eq!(outcomes(&[Act::Strike(0), open(5, 2), Act::Strike(0)]), expected);
 }
 
 #[test]

@@ -11,12 +11,14 @@ static const uint32_t words[] = {
     MILEBADGER_MODULUS(NUMBER), MILEBADGER_UNKNOWNS(MILEBADGER_MOST_UNKNOWNS), MILEBADGER_COEFFICIENT(0),
     MILEBADGER_RIGHT(4u), MILEBADGER_HEAD(MILEBADGER_LARGEST_HEAD), MILEBADGER_ENTRY(sizeof(char)),
     MILEBADGER_STRIKE, MILEBADGER_ANSWER, MILEBADGER_WORD(7, 7), MILEBADGER_MINUS_COEFFICIENT(NUMBER),
-    MILEBADGER_MINUS_RIGHT(0), MILEBADGER_OWN_MODULUS(NUMBER),
+    MILEBADGER_MINUS_RIGHT(0), MILEBADGER_OWN_MODULUS(NUMBER), MILEBADGER_STRIKE_AT(NUMBER),
 };
 
-/* Minus 1 has a kind of its own, and keeps its number; so has the modulus of an equation. */
+/* Minus 1 has a kind of its own, and keeps its number; so has the modulus of an equation, and the place of a strike, which has 0 for
+ * the last. */
 typedef char kinds[MILEBADGER_MINUS_COEFFICIENT(1) == 0xA0000001 && MILEBADGER_MINUS_RIGHT(1) == 0xB0000001 ? 1 : -1];
 typedef char moduli[MILEBADGER_OWN_MODULUS(3) == 0xC0000003 && MILEBADGER_NUMBER(MILEBADGER_OWN_MODULUS(3)) == 3 ? 1 : -1];
+typedef char places[MILEBADGER_STRIKE_AT(2) == 0x80000002 && MILEBADGER_STRIKE_AT(0) == MILEBADGER_STRIKE ? 1 : -1];
 typedef char numbers[MILEBADGER_NUMBER(MILEBADGER_MINUS_RIGHT(MILEBADGER_LARGEST_NUMBER)) == 268435455 ? 1 : -1];
 
 static uint8_t lines[MILEBADGER_LINES_ROOM(sizeof words)];
@@ -31,7 +33,7 @@ typedef char passes[MILEBADGER_MARK(1) == MILEBADGER_PASS && MILEBADGER_MARK(0) 
 typedef char shape[MILEBADGER_MARK(101) == MILEBADGER_REFUSED_SHAPE ? 1 : -1];
 typedef char number[MILEBADGER_MARK(106) == MILEBADGER_REFUSED_NUMBER ? 1 : -1];
 
-#if MILEBADGER_VERSION < 20300 || MILEBADGER_REFUSED_OWN_MODULUS != -15 || MILEBADGER_REASON_MISSED != 5
+#if MILEBADGER_VERSION < 20400 || MILEBADGER_REFUSED_PLACE != -16 || MILEBADGER_REASON_MISSED != 5
 #error "names that the preprocessor cannot read"
 #endif
 
@@ -49,6 +51,7 @@ int64_t run_later(const uint8_t *bytes, int i, int64_t l)
     word ^= i < 0 ? MILEBADGER_MINUS_COEFFICIENT(-i) : MILEBADGER_COEFFICIENT(i);
     word ^= l < 0 ? MILEBADGER_MINUS_RIGHT(-l) : MILEBADGER_RIGHT(l);
     word ^= MILEBADGER_OWN_MODULUS(*bytes++) ^ MILEBADGER_OWN_MODULUS(l);
+    word ^= MILEBADGER_STRIKE_AT(*bytes++) ^ MILEBADGER_STRIKE_AT(i);
     for (size_t j = 0; j < sizeof words / sizeof *words; j++)
         word ^= words[j];
     return milebadger_tape(bytes, MILEBADGER_NUMBER(word) % MILEBADGER_LONGEST_TAPE, lines, sizeof lines);
@@ -61,7 +64,7 @@ const char *sheet_later(uint32_t *out, size_t out_len)
 {
     milebadger_sheet sheet = {0}, copy = sheet;
     int64_t result = milebadger_version() == MILEBADGER_VERSION ? milebadger_open(&sheet, words, 2) : 0;
-    result += milebadger_add(&sheet, words + 2, 2) + milebadger_strike(&copy, 0);
+    result += milebadger_add(&sheet, words + 2, 2) + milebadger_strike(&copy, MILEBADGER_MOST_EQUATIONS);
     result += milebadger_add_text(&sheet, lines, MILEBADGER_LONGEST_TEXT);
     result += milebadger_answer(&copy, out, out_len);
     if (milebadger_mark(&sheet, out, out_len) == MILEBADGER_PASS)
@@ -136,6 +139,7 @@ int kinds_of_results(int64_t result)
     case MILEBADGER_REFUSED_NOT_LINEAR:
     case MILEBADGER_REFUSED_CLAIMS:
     case MILEBADGER_REFUSED_OWN_MODULUS:
+    case MILEBADGER_REFUSED_PLACE:
         return 1;
     default:
         return 2;

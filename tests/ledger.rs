@@ -322,8 +322,10 @@ impl Ledger {
                 system.add(system.m, numbers.iter().map(|&number| number as i64).collect());
                 Said::Added(system.equations.len())
             }
-            (Call::Strike(_), Ledger::Opened(system)) => {
-                system.equations.pop();
+            (Call::Strike(place), Ledger::Opened(system)) => {
+                // "1 for the first; 0 means the last. Later lines close up in order"
+                let place = if *place == 0 { system.equations.len() } else { *place as usize };
+                system.equations.remove(place - 1);
                 Said::Struck(system.equations.len())
             }
             (Call::Answer(_) | Call::AnswerFromTape(_), Ledger::Opened(system)) => Said::Answered(solve(system)),
@@ -347,7 +349,7 @@ impl Ledger {
             Call::Open(_) => &[1, 2, 3],
             Call::Add(_) => &[4, 1, 15, 5],
             Call::AddText(_) => &[4, 11, 12, 13, 5],
-            Call::Strike(_) => &[4, 1, 7],
+            Call::Strike(_) => &[4, 7, 16],
             Call::Answer(_) => &[4, 8],
             Call::AnswerFromTape(_) => &[4, 1],
             Call::Mark(_) => &[4, 1, 6],
@@ -375,9 +377,9 @@ impl Ledger {
             (11, Call::AddText(typed)) => typed.is_some(),
             (12, Call::AddText(Some(typed))) => typed.unknowns().iter().all(|&j| j <= system().n),
             (13, Call::AddText(Some(typed))) => typed.linear(),
-            (1, Call::Strike(place)) => *place == 0,
             (1, Call::AnswerFromTape(word)) => number(*word) == 0,
             (7, Call::Strike(_)) => !system().equations.is_empty(),
+            (16, Call::Strike(place)) => *place as usize <= system().equations.len(),
             (8, Call::Answer(length)) => block_length(system()).is_none_or(|block| block <= *length),
             (1, Call::Mark(words) | Call::Reason(words, ..)) => is_claim(system().n, words),
             (6, Call::Mark(words) | Call::Reason(words, ..)) => words[1..].iter().all(|&w| number(w) < system().m),

@@ -38,7 +38,7 @@ fn lines(words: &[u32]) -> String {
 #[test]
 fn the_archive_has_the_version_of_the_header() {
     assert_eq!(face::version() as usize, limit("VERSION"));
-    assert_eq!(face::version(), 20_300, "2.3.0");
+    assert_eq!(face::version(), 20_400, "2.4.0");
 }
 
 #[test]
@@ -145,6 +145,7 @@ fn the_header_has_the_kinds_of_the_paper() {
         ("HEAD(", HEAD),
         ("ENTRY(", ENTRY),
         ("STRIKE ", ledger::STRIKE),
+        ("STRIKE_AT(", ledger::STRIKE),
         ("ANSWER ", ANSWER),
         ("MINUS_COEFFICIENT(", ledger::MINUS_COEFFICIENT),
         ("MINUS_RIGHT(", ledger::MINUS_RIGHT),

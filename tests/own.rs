@@ -341,8 +341,10 @@ fn a_struck_line_leaves_nothing_of_its_modulus_behind() {
         let kept = [open(m, n), add_own(q, &first)];
         for line in [add(&after), add_own(other, &after), add_text("x1 = 1")] {
             let direct = [&kept[..], &[line.clone()]].concat();
-            let detour = [&kept[..], &[add_own(other, &struck), Act::Strike(0), line]].concat();
+            let detour = [&kept[..], &[add_own(other, &struck), Act::Strike(0), line.clone()]].concat();
             assert_eq!(answer_after(&direct), answer_after(&detour), "{direct:x?} (seed {})", random.seed);
+            let from_the_middle = [&kept[..], &[add_own(other, &struck), line, Act::Strike(2)]].concat();
+            assert_eq!(answer_after(&direct), answer_after(&from_the_middle), "{direct:x?} (seed {})", random.seed);
             let opened_again = [&detour[..], &direct].concat();
             assert_eq!(answer_after(&direct), answer_after(&opened_again), "{direct:x?} (seed {})", random.seed);
         }

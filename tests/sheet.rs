@@ -84,7 +84,7 @@ pub struct Reply {
 fn read(act: &Act, result: i64) -> Option<Outcome> {
     match (act, result) {
         (_, -8..=-1) | (Act::AddText(_), -13..=-11) => Some(Outcome::Refused(-result as u32)),
-        (Act::Class(..), -14) | (Act::Add(_), -15) => Some(Outcome::Refused(-result as u32)),
+        (Act::Class(..), -14) | (Act::Add(_), -15) | (Act::Strike(_), -16) => Some(Outcome::Refused(-result as u32)),
         (Act::Open(_), 0) => Some(Outcome::Holds(0)),
         (Act::Add(_) | Act::AddText(_) | Act::Strike(_), 0..=16) => Some(Outcome::Holds(result as usize)),
         (Act::Answer(buffer), 1..) if result <= buffer.len() as i64 => Some(Outcome::Wrote(result as usize)),

@@ -12,7 +12,7 @@ mod shown;
 mod spelling;
 
 use acts::{add, add_own, add_text, all_refusals, answer, class, entering, mark, open, random_act, random_system, reason, step};
-use acts::{Tally, WRONG_PLACES};
+use acts::{place, Tally, FAR_PLACES};
 use exercises::{chance, pick};
 use face::LONGEST_BLOCK;
 use ledger::{number, Ledger};
@@ -80,6 +80,18 @@ fn write(numbers: &mut [u32], place: usize, q: u32, residues: &[u32]) {
     numbers[at..at + cells.len()].copy_from_slice(&cells);
 }
 
+/// Takes the line at a place away: 1 is the first, and 0 the last. Each line behind it lies one place further up, as it was.
+fn strike(numbers: &mut [u32], place: u32) {
+    let mut left: Vec<(u32, Vec<u32>)> = lines(numbers).map(|(q, cells)| (q, cells.to_vec())).collect();
+    left.remove(if place == 0 { left.len() } else { place as usize } - 1);
+    for (index, (q, cells)) in left.iter().enumerate() {
+        let at = CELLS + index * cells.len();
+        numbers[MODULI + index] = *q;
+        numbers[at..at + cells.len()].copy_from_slice(cells);
+    }
+    numbers[HELD] -= 1;
+}
+
 /// Puts a line with the modulus q and these residues behind those that are held.
 fn enter(numbers: &mut [u32], q: u32, residues: &[u32]) {
     write(numbers, numbers[HELD] as usize, q, residues);
@@ -104,7 +116,7 @@ fn after(numbers: &[u32], act: &Act, outcome: Outcome) -> Vec<u32> {
             let line = typed.numbers(m, numbers[UNKNOWNS] as usize);
             enter(&mut numbers, m, &line);
         }
-        (Act::Strike(_), _) => numbers[HELD] -= 1,
+        (Act::Strike(place), _) => strike(&mut numbers, *place),
         (Act::Answer(_) | Act::Mark(_) | Act::MarkBlock | Act::Class(..) | Act::Reason(..), _) => {}
     }
     numbers
@@ -153,7 +165,9 @@ fn expect_each(random: &mut Random, numbers: &[u32], tally: &mut Tally) {
         add_text("0*x1*x1 = 0"),
         Act::AddText(spelling::text(random, system.n)),
         Act::Strike(0),
-        Act::Strike(pick(random, &WRONG_PLACES)),
+        Act::Strike(1),
+        Act::Strike(place(random, system.equations.len())),
+        Act::Strike(pick(random, &FAR_PLACES)),
         answer(LONGEST_BLOCK),
         answer(0),
         mark(&[]),
@@ -313,8 +327,11 @@ fn plausible(random: &mut Random) -> Vec<u32> {
 fn made(random: &mut Random) -> Vec<u32> {
     let (mut desk, mut tally) = (Desk::fresh(), Tally::new());
     let system = random_system(random);
-    let strikes = vec![Act::Strike(0); random.below(3) as usize];
-    for act in [entering(&system), strikes].concat() {
+    for act in entering(&system) {
+        expect(&mut desk, &act, random.seed, &mut tally);
+    }
+    for _ in 0..random.below(3) {
+        let act = Act::Strike(place(random, desk.numbers()[HELD] as usize));
         expect(&mut desk, &act, random.seed, &mut tally);
     }
     desk.numbers().to_vec()
@@ -326,7 +343,7 @@ fn zeroed_memory_is_an_unopened_sheet() {
     let words = [vec![], ledger::opening(2, 1), ledger::equation(&[1, 1]), ledger::claim(&[]), ledger::claim(&[vec![0]])];
     let acts = words.iter().flat_map(|words| [Act::Add(words.clone()), Act::Mark(words.clone())]);
     let texts = ["x1 = 1", "1 = 1", "", "=", "x1*x1 = 0", "x16 = 0"].map(add_text);
-    let strikes = WRONG_PLACES.iter().chain(&[0]).map(|&place| Act::Strike(place));
+    let strikes = FAR_PLACES.iter().chain(&[0, 1, 16]).map(|&place| Act::Strike(place));
     let marks = |bytes: usize| vec![0xC0; bytes];
     let classes = words.iter().map(|words| Act::Class(words.clone(), marks(64))).chain([0, 1, 64, 65, 1_000].map(|count| {
         // more claims than may be, and fewer bytes than claims
@@ -465,7 +482,7 @@ fn every_line_of_two_numbers_is_read_by_its_modulus() {
         }
     }
     for numbers in &sheets {
-        for act in [answer(LONGEST_BLOCK), mark(&[]), add_own(2, &[1, 1]), Act::Strike(0)] {
+        for act in [answer(LONGEST_BLOCK), mark(&[]), add_own(2, &[1, 1]), Act::Strike(0), Act::Strike(1), Act::Strike(2)] {
             expect(&mut Desk::with(numbers), &act, 0, &mut tally);
         }
     }

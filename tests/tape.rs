@@ -166,8 +166,8 @@ pub fn readings() -> Vec<(Vec<u32>, String)> {
         (vec![0x1000_0003], "refused 1\n".to_string()),
         // a head above 17 takes one word, and so does head 0
         (opened(&[0x5000_0012, 0x5000_0000]), "open 3 2\nrefused 1\nfail\n".to_string()),
-        // the word's number is asked for before an equation
-        (opened(&[0x9000_0001, 0x8000_0001, 0x8000_0000]), "open 3 2\nrefused 1\nrefused 1\nrefused 7\n".to_string()),
+        // an answer has the number 0; a strike asks for an equation first, whatever its number
+        (opened(&[0x9000_0001, 0x8000_0001, 0x8000_0000]), "open 3 2\nrefused 1\nrefused 7\nrefused 7\n".to_string()),
     ]
 }
 
@@ -312,6 +312,54 @@ pub fn own_readings() -> Vec<(Vec<u32>, String)> {
             "added 1\nfrom 0 2\nstep 1 1\nstep 0 3\nadded 2\nfrom 2 1\nstep 4 1\nstep 0 3\n\
              added 3\nfrom 2 1\nstep 4 4\nstruck 2\nstruck 1\nfrom 0 2\nstep 1 1\nstep 0 3\n",
         ),
+    ]
+}
+
+/// Tapes with strikes at any place, and an answer behind them, with their lines.
+pub fn struck_readings() -> Vec<(Vec<u32>, String)> {
+    let played = |opening: Vec<u32>, equations: [Vec<u32>; 3], strikes: &[u32], lines: &str| {
+        let opened = format!("open {} {}\nadded 1\nadded 2\nadded 3\n", number(opening[0]), number(opening[1]));
+        ([&opening[..], &equations.concat(), strikes, &[0x9000_0000]].concat(), opened + lines)
+    };
+    // mod 5 x = 1, y = 2, z = 3
+    let three = |strikes: &[u32], lines: &str| {
+        let equations = [[1, 0, 0, 1], [0, 1, 0, 2], [0, 0, 1, 3]].map(|numbers| ledger::equation(&numbers));
+        played(ledger::opening(5, 3), equations, strikes, lines)
+    };
+    // mod 12 x = 2 mod 3, x = 3 mod 4, x = 1 mod 2
+    let clock = |strikes: &[u32], lines: &str| {
+        let equations = [(3, 2), (4, 3), (2, 1)].map(|(q, right)| ledger::own_equation(q, &[1, right]));
+        played(ledger::opening(12, 1), equations, strikes, lines)
+    };
+    // mod 2 x = 0, y = 1, x = 1
+    let none = |strikes: &[u32], lines: &str| {
+        let equations = [[1, 0, 0], [0, 1, 1], [1, 0, 1]].map(|numbers| ledger::equation(&numbers));
+        played(ledger::opening(2, 2), equations, strikes, lines)
+    };
+    vec![
+        three(&[0x8000_0001], "struck 2\nfrom 0 2 3\nstep 1 0 0\n"),
+        three(&[0x8000_0002], "struck 2\nfrom 1 0 3\nstep 0 1 0\n"),
+        three(&[0x8000_0003], "struck 2\nfrom 1 2 0\nstep 0 0 1\n"),
+        three(&[0x8000_0000], "struck 2\nfrom 1 2 0\nstep 0 0 1\n"),
+        three(&[0x8000_0004], "refused 16\nfrom 1 2 3\n"),
+        three(&[0x8000_0010, 0x8000_0011, 0x8100_0000, 0x8FFF_FFFF], "refused 16\nrefused 16\nrefused 16\nrefused 16\nfrom 1 2 3\n"),
+        // the third line is the second once the second is struck, and no longer the third
+        three(&[0x8000_0002, 0x8000_0002], "struck 2\nstruck 1\nfrom 1 0 0\nstep 0 1 0\nstep 0 0 1\n"),
+        three(&[0x8000_0002, 0x8000_0003], "struck 2\nrefused 16\nfrom 1 0 3\nstep 0 1 0\n"),
+        // whatever the place, 7 where no equation is left
+        three(
+            &[0x8000_0001, 0x8000_0001, 0x8000_0001, 0x8000_0001, 0x8FFF_FFFF, 0x8000_0000],
+            "struck 2\nstruck 1\nstruck 0\nrefused 7\nrefused 7\nrefused 7\nfrom 0 0 0\nstep 1 0 0\nstep 0 1 0\nstep 0 0 1\n",
+        ),
+        // the lines behind keep their own modulus
+        clock(&[0x8000_0001], "struck 2\nfrom 3\nstep 4\n"),
+        clock(&[0x8000_0002], "struck 2\nfrom 5\nstep 6\n"),
+        clock(&[0x8000_0003], "struck 2\nfrom 11\n"),
+        // and multipliers are those for the lines left
+        none(&[], "none 1 0 1\n"),
+        none(&[0x8000_0001], "struck 2\nfrom 1 1\n"),
+        none(&[0x8000_0002], "struck 2\nnone 1 1\n"),
+        none(&[0x8000_0003], "struck 2\nfrom 0 1\n"),
     ]
 }
 

@@ -91,7 +91,7 @@ fn exercise(random: &mut Random, calls: usize) -> Vec<u32> {
         let system = if let Ledger::Opened(system) = &sheet { system } else { &unopened };
         let words = match random.below(if filling { 40 } else { 20 }) {
             0 => exercises::opening(random),
-            1..=2 => vec![ledger::word(ledger::STRIKE, 0)],
+            1..=2 => vec![ledger::word(ledger::STRIKE, random.below(system.equations.len() as u64 + 2) as u32)],
             3 => vec![ledger::word(pick(random, &[ledger::STRIKE, ledger::ANSWER]), boundary(random))],
             4..=7 => vec![ledger::word(ledger::ANSWER, 0)],
             8..=12 => exercises::claim(random, system),
@@ -118,7 +118,7 @@ fn boundary_word(random: &mut Random) -> u32 {
 const REFUSALS: [(&str, &[u32]); 7] = [
     ("open", &[1, 2, 3]),
     ("add", &[4, 1, 15, 5]),
-    ("strike", &[4, 1, 7]),
+    ("strike", &[4, 7, 16]),
     ("answer from tape", &[4, 1]),
     ("mark", &[4, 1, 6]),
     ("meaningless word", &[1]),
@@ -215,7 +215,8 @@ fn random_words_and_random_bytes_print_their_lines() {
 
 #[test]
 fn a_tape_is_cut_into_calls_as_the_paper_says() {
-    for (words, lines) in tape::readings().into_iter().chain(tape::signed_readings()).chain(tape::own_readings()) {
+    let all = [tape::readings(), tape::signed_readings(), tape::own_readings(), tape::struck_readings()];
+    for (words, lines) in all.concat() {
         assert_eq!(expect(&tape::bytes(&words), 0, &mut Tally::new()), lines, "{words:x?}");
     }
 }
@@ -251,7 +252,7 @@ fn in_two_writings(random: &mut Random) -> [Vec<u32>; 2] {
         let numbers: Vec<i64> = (0..=n).map(|_| if chance(random, 3) { 0 } else { exercises::any_whole(random, m) }).collect();
         let line = Line { q, numbers };
         let vectors = exercises::any_claim(random, m, n as usize);
-        let strikes = vec![ledger::word(ledger::STRIKE, 0); chance(random, 4) as usize];
+        let strikes = vec![ledger::word(ledger::STRIKE, random.below(3) as u32); chance(random, 4) as usize];
         let behind = [vec![ledger::word(ledger::ANSWER, 0)], ledger::claim(&vectors), strikes].concat();
         words[0].extend([ledger::line_words(m, &line), behind.clone()].concat());
         words[1].extend([ledger::line_words(m, &line.reduced()), behind].concat());
@@ -272,12 +273,13 @@ fn equations_with_signs_and_large_numbers_print_the_lines_of_their_residues() {
 }
 
 #[test]
-fn a_strike_and_an_answer_have_number_0_in_all_28_bits() {
+fn an_answer_has_number_0_and_a_strike_a_place_in_all_28_bits() {
     for bit in 0..28 {
         let calls = [ledger::word(ledger::STRIKE, 1 << bit), ledger::word(ledger::ANSWER, 1 << bit)];
         let (open, add) = (ledger::opening(3, 1), ledger::equation(&[1, 2]));
         let words = [&calls[..], &open, &calls, &add, &calls, &[9 << 28, 8 << 28]].concat();
-        let lines = "refused 4\nrefused 4\nopen 3 1\nrefused 1\nrefused 1\nadded 1\nrefused 1\nrefused 1\nfrom 2\nstruck 0\n";
+        let (struck, left) = if bit == 0 { ("struck 0", "from 0\nstep 1\nrefused 7") } else { ("refused 16", "from 2\nstruck 0") };
+        let lines = format!("refused 4\nrefused 4\nopen 3 1\nrefused 7\nrefused 1\nadded 1\n{struck}\nrefused 1\n{left}\n");
         assert_eq!(expect(&tape::bytes(&words), 0, &mut Tally::new()), lines, "bit {bit}");
     }
 }

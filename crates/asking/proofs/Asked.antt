@@ -2,13 +2,14 @@
 --   opened-asked   "opened? 4.", the first question
 --   plain-asked    "On tape, number 0? 1."
 --   held-asked     "An equation there? 7."
+--   place-asked    "after 7, a place beyond the lines held 16"
 --   room-asked     "opened? 4." and, behind what is asked of an equation, "Under 16 equations? 5.", on an opened sheet
 --   typing-asked   so it is with a typed equation, by what the reader asks of its text
 use mathlib.Core.Path.{_≡_, sym, ap, _∙_}
 use mathlib.Core.Bool.{true}
 use mathlib.Core.List.{List, [], _∷_, _++_}
 use Prim.Native.Nat.{ℕ}
-use lib.Dec.{eqb, ltb}
+use lib.Dec.{eqb, leb, ltb}
 use lib.ListN.{length}
 use Rattle.questions.specs.Questions.{Question, asks, firstNo}
 use Rattle.questions.proofs.Ladder.{thenAsks, Asked, nothing-asked, then-asked}
@@ -34,6 +35,11 @@ module _ {qs : List Question} {before : ℕ} (asked : Asked qs before) {r : ℕ}
       → Asked (qs ++ (asks 7 (ltb 0 (length (linesIn l))) ∷ [])) r
   held-asked {l} sees is =
       then-asked asked 7 tt (ltb 0 (length (linesIn l))) (λ yes. ap (λ (k : ℕ). ltb 0 k) (sees .held)) is
+
+  pub place-asked : (place : ℕ) {l : Ledger} {seen : Seen} → Sees l seen → r ≡ thenAsks before 16 (leb place (seen .held))
+      → Asked (qs ++ (asks 16 (leb place (length (linesIn l))) ∷ [])) r
+  place-asked place {l} sees is =
+      then-asked asked 16 tt (leb place (length (linesIn l))) (λ yes. ap (leb place) (sees .held)) is
 
 pub room-asked : (l : Ledger) {seen : Seen} → Sees l seen → seen .opened ≡ true → {qs : List Question} {before r : ℕ}
     → Asked qs before → r ≡ thenAsks before 5 (ltb (seen .held) mostEquations)

@@ -58,10 +58,10 @@ pub fn typing_of(seen: Seen, text: &[u8]) -> Typing
     }
 }
 
-pub fn strike_refusal(seen: Seen, number: u32) -> u32
-    ensures { λ r. ⌜ ((l : Ledger) → Sees l seen → r ≡ refusalOf l (enters (strikes number))) ⌝ }
+pub fn strike_refusal(seen: Seen, place: u32) -> u32
+    ensures { λ r. ⌜ ((l : Ledger) → Sees l seen → r ≡ refusalOf l (enters (strikes place))) ⌝ }
 {
     let opened = ask(0, 4, seen.opened);
-    let plain = ask(opened, 1, number == 0);
-    ask(plain, 7, 0 < seen.held)
+    let some = ask(opened, 7, 0 < seen.held);
+    ask(some, 16, place as usize <= seen.held)
 }

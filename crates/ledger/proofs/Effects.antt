@@ -7,9 +7,9 @@
 use mathlib.Core.Path.{_≡_, sym, ap, subst, _∙_}
 use mathlib.Core.Bool.{true}
 use mathlib.Core.List.{List, [], _∷_}
-use Prim.Native.Nat.{ℕ, suc, _+_, _-_, _<_, _≤_}
+use Prim.Native.Nat.{ℕ, zero, suc, _+_, _-_, _<_, _≤_}
 use native.Mathlib.Omega.{arith}
-use lib.Dec.{T, ltb→lt}
+use lib.Dec.{T, ltb→lt, leb→le}
 use lib.ListN.{length, take, drop, length-append, length-drop}
 use lib.Seq.{length-take-le}
 use Rattle.questions.specs.Questions.{allowedModulus, allowedOwn}
@@ -30,7 +30,7 @@ use Rattle.ledger.specs.Ledger.{Ledger, unopened, opened, isOpened, modu
 use Rattle.ledger.specs.Shapes.{isEquation, ownModulus, equationWords}
 use Rattle.ledger.specs.Calls.{Entry, opens, adds, types, strikes, enters}
 use Rattle.ledger.specs.Questions.{allowedUnknowns, refusalOf}
-use Rattle.ledger.specs.History.{Effect, begins, gains, loses, effectOf, changed, without, enter}
+use Rattle.ledger.specs.History.{Effect, begins, gains, loses, struckAt, effectOf, changed, without, enter}
 use Rattle.ledger.proofs.Shapes.{equation-length, behindOwn, equation-memory}
 use Rattle.ledger.proofs.Questions.{accepted-yes}
 
@@ -58,6 +58,11 @@ residues-long q n ws shape =
     (ap (isEquation n) (sym (equation-memory ws)) ∙ true-of (isEquation n (equationWords (wordsIn ws))) shape)
 
 -- ---- what is let through
+
+-- a place that is not beyond the lines is one of theirs
+struck-within : (held place : ℕ) → 0 < held → place ≤ held → struckAt held place < held
+struck-within held zero some within = omega (arith, some)
+struck-within held (suc j) some within = omega (arith, within)
 
 pub accepted-allows : (l : Ledger) (e : Entry) → refusalOf l (enters e) ≡ 0 → Allows l (effectOf l e)
 accepted-allows l (opens ws) none = let yes = accepted-yes l (enters (opens ws)) none in (yes .1 .0, yes .1 .1 .0)
@@ -91,9 +96,9 @@ accepted-allows l (types text) none =
       coefficients = λ two. vector-below m n _ (equation-shaped m n e (omega arith) .0);
       right = λ two. equation-shaped m n e (omega arith) .1;
     })
-accepted-allows l (strikes number) none =
-    let yes = accepted-yes l (enters (strikes number)) none in
-    (yes .0, omega (arith, ltb→lt 0 (length (linesIn l)) (yes .1 .1 .0)))
+accepted-allows l (strikes place) none =
+    let yes = accepted-yes l (enters (strikes place)) none in
+    (yes .0, struck-within (length (linesIn l)) place (ltb→lt 0 (length (linesIn l)) (yes .1 .0)) (leb→le place (length (linesIn l)) (yes .1 .1 .0)))
 
 pub enter-accepted : (l : Ledger) (e : Entry) → refusalOf l (enters e) ≡ 0 → enter l (enters e) ≡ changed l (effectOf l e)
 unfolding enter

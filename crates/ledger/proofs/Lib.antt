@@ -6,7 +6,6 @@ pub mod Answer
 pub mod Own
 pub mod Questions
 pub mod Refusals
-pub mod Typing
 pub mod Effects
 pub mod History
 pub mod Classes

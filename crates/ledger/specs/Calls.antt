@@ -3,8 +3,8 @@ use mathlib.Core.List.{List}
 use Prim.Native.Nat.{ℕ}
 
 -- The calls that open, add or strike, each "with its arguments other than the sheet". Words and buffers are given by what "their
--- memory holds at that call"; a strike has the number of its word on tape, or the place that a C caller names. "A typed equation is an
--- add": it has the bytes of its text.
+-- memory holds at that call". "A typed equation is an add": it has the bytes of its text. "The strike's number is a place": that of its
+-- word on tape, or the one that a C caller names.
 pub data Entry : Type 0 where
   opens : List ℕ → Entry
   adds : List ℕ → Entry

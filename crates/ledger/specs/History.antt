@@ -1,7 +1,7 @@
 -- What an accepted call that opens, adds or strikes does to a ledger; the ledger after a call, and after a list of calls. It "is fed the
 -- calls alone" and "sees neither the sheet's own record nor what a call gives back". Definitions only.
 use mathlib.Core.List.{List, [], _∷_, _++_}
-use Prim.Native.Nat.{ℕ, suc, _-_}
+use Prim.Native.Nat.{ℕ, zero, suc, _-_}
 use lib.ListN.{length, take, drop}
 use Rattle.questions.specs.Questions.{unlessRefused}
 use Rattle.equations.specs.Line.{Line}
@@ -18,6 +18,11 @@ pub data Effect : Type 0 where
   gains : Line → Effect
   loses : ℕ → Effect
 
+-- "The strike's number is a place, 1 for the first; 0 means the last.": of so many lines, counted from 0
+abbrev pub struckAt : ℕ → ℕ → ℕ
+struckAt held zero = held - 1
+struckAt held (suc j) = j
+
 abbrev pub effectOf : Ledger → Entry → Effect
 effectOf l (opens ws) = begins (numberAt (wordsIn ws) 0) (numberAt (wordsIn ws) 1)
 effectOf l (adds ws) = gains (lineFrom (modulusOf l) (unknownsOf l) (wordsIn ws))
@@ -25,10 +30,10 @@ effectOf l (adds ws) = gains (lineFrom (modulusOf l) (unknownsOf l) (wordsIn ws)
 -- typed text, q is m"
 effectOf l (types text) =
     gains (record { modulus = modulusOf l; equation = equationIn (modulusOf l) (unknownsOf l) (typedOf text) })
--- "Accepted strike: the last equation goes."
-effectOf l (strikes number) = loses (length (linesIn l) - 1)
+-- "Accepted strike: the last equation goes."; "The ledger's strike is amended so": the one at its place goes
+effectOf l (strikes place) = loses (struckAt (length (linesIn l)) place)
 
--- all but what stands at place j
+-- all but what stands at place j: "Later lines close up in order"
 abbrev pub without : {A : Type 0} → ℕ → List A → List A
 without j xs = take j xs ++ drop (suc j) xs
 

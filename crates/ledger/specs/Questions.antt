@@ -56,11 +56,12 @@ questions l (enters (types text)) =
     ∷ asks 13 (isLinear text)
     ∷ asks 5 (ltb (length (linesIn l)) mostEquations)
     ∷ []
--- "Strike: opened? 4. On tape, number 0? 1. An equation there? 7."
-questions l (enters (strikes number)) =
+-- "Strike: opened? 4. .. An equation there? 7."; "A strike word's number need no longer be 0. Turned away: after 7, a place beyond the
+-- lines held 16."
+questions l (enters (strikes place)) =
     asks 4 (isOpened l)
-    ∷ asks 1 (eqb number 0)
     ∷ asks 7 (ltb 0 (length (linesIn l)))
+    ∷ asks 16 (leb place (length (linesIn l)))
     ∷ []
 -- "Answer: opened? 4. On tape, number 0? 1. Buffer long enough for this block? 8; on tape it always is."
 questions l (queries (answers buffer)) = asks 4 (isOpened l) ∷ asks 8 (fits (answerWords l) buffer) ∷ []

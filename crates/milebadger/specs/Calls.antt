@@ -41,9 +41,9 @@ use Rattle.tape.specs.Output.{mostBytes, lines}
 abbrev pub minus : ℕ → ℤ
 minus k = negℤ (pos k)
 
--- 10,000 times the major, 100 times the minor and the patch number: 2.3.0
+-- 10,000 times the major, 100 times the minor and the patch number: 2.4.0
 abbrev pub version : ℕ
-version = 20300
+version = 20400
 
 -- What the calls on a sheet give back, as a result: "the equations then held", how many words the block has, 1 for a pass and 0 for a
 -- fail, or how many claims a class has; or minus the number of the refusal.

@@ -48,7 +48,7 @@ pub extern "C" fn milebadger_add_text(sheet: &mut [u32; Sheet::SIZE], text: &[u8
     entered_result(entered)
 }
 
-// Strikes the last equation: how many are then held. The place is the number of a strike word, which is 0.
+// Strikes the equation at a place, 1 for the first and 0 for the last: how many are then held.
 #[no_mangle]
 pub extern "C" fn milebadger_strike(sheet: &mut [u32; Sheet::SIZE], place: u32) -> i64
     ensures { λ r. ⌜ r ≡ enteredResult (enteredOf (ledgerOf (now (sheet .entry))) (strikes place)) ⌝ }

@@ -1,14 +1,13 @@
 -- What is said of an equation in words, `right-adding`, where the ledger that a sheet reads as is opened.
 use mathlib.Core.Path.{_≡_, refl, sym, ap, subst, _∙_}
 use mathlib.Core.Logic.{_↔_}
-use mathlib.Core.Bool.{Bool, true, false}
 use mathlib.Core.List.{List, [], _∷_}
 use Prim.Native.Nat.{ℕ, suc, _<_}
 use native.Mathlib.Omega.{arith}
 use borrow.Author.Tests.{lt-ltb}
-use lib.Dec.{T, ltb, ltb→lt}
+use lib.Dec.{T, ltb→lt}
 use lib.ListN.{length}
-use Rattle.questions.specs.Questions.{asks, firstNo, allowedOwn}
+use Rattle.questions.specs.Questions.{allowedOwn}
 use Rattle.questions.proofs.Questions.{own-least}
 use Rattle.equations.specs.Equation.{solvesOne}
 use Rattle.equations.specs.Lines.{equationAt}
@@ -34,14 +33,6 @@ use Rattle.sheet.proofs.Said.{refused-said, holds-said, gained-said, ga
 
 modulus-asked : (m q : ℕ) → T (allowedOwn m q) ↔ LineModulus m q
 modulus-asked m q = ((λ t. (own-least m q t, own-divides m q t)), λ right. own-of-divides m q (right .0) (right .1))
-
--- 15 is given exactly where the shape is right and the modulus is not
-fifteen-given : (shape own under : Bool)
-    → (firstNo (asks 1 shape ∷ asks 15 own ∷ asks 5 under ∷ []) ≡ 15) ↔ (T shape × (T own → ⊥))
-fifteen-given false own under = ((λ e. absurd (omega (arith, e))), λ both. absurd (both .0))
-fifteen-given true false under = ((λ e. (tt, λ t. t)), λ both. refl)
-fifteen-given true true true = ((λ e. absurd (omega (arith, e))), λ both. absurd (both .1 tt))
-fifteen-given true true false = ((λ e. absurd (omega (arith, e))), λ both. absurd (both .1 tt))
 
 module _ (m n : ℕ) (ls : List Line) (ws : List ℕ) where
   abbrev l : Ledger
@@ -74,21 +65,13 @@ module _ (m n : ℕ) (ls : List Line) (ws : List ℕ) where
     λ right. gained-said m n ls (adds ws) refl (accepted-where .1 right),
   )
 
-  fifteen-where : (refusalOf l (enters (adds ws)) ≡ 15) ↔ (T (isEquation n words) × (LineModulus m q → ⊥))
-  unfolding refusalOf
-  fifteen-where =
-      let given = fifteen-given (isEquation n words) (allowedOwn m q) (ltb (length ls) mostEquations) in (
-        (λ e. let both = given .0 e in (both .0, λ right. both .1 (modulus-asked m q .1 right))),
-        λ both. given .1 (both .0, λ t. both .1 (modulus-asked m q .0 t)),
-      )
-
   pub fifteen-said : (enteredOf (opened m n ls) (adds ws) ≡ Refused 15)
       ↔ (T (isEquation n (equationWords (wordsIn ws))) × (LineModulus m (ownModulus m (wordsIn ws)) → ⊥))
-  unfolding enteredOf
-  fifteen-said = (
-    (λ said. fifteen-where .0 (refused-said l (adds ws) 15 said)),
-    λ right. rw (fifteen-where .1 right),
-  )
+  fifteen-said =
+      let said = refused-said l (adds ws) 15 2 tt tt in (
+        (λ refused. let turns = said .0 refused in (turns .1 .0, λ right. turns .1 .1 (modulus-asked m q .1 right))),
+        λ (shape, wrong). said .1 (tt, (shape, λ own. wrong (modulus-asked m q .0 own))),
+      )
 
 -- the words, as whole numbers, hold mod q where their residues do
 whole-solved : (q n : ℕ) (words : List Word) → 0 < q → (v : List ℕ)

@@ -2,17 +2,18 @@
 --   right-strays  a word that is no head of at most 17 is a claim of one word and gets 101
 --   right-class   a class is marked exactly where there are at most 64 claims and bytes enough, and then as each claim is singly
 use mathlib.Core.Path.{_≡_, refl, sym, ap, subst, _∙_}
-use mathlib.Core.Logic.{_↔_}
-use mathlib.Core.Bool.{Bool, true, false, cond}
+use mathlib.Core.Logic.{_↔_, Iff·trans}
+use mathlib.Core.Bool.{Bool, cond}
 use mathlib.Core.List.{List, [], _∷_}
-use Prim.Native.Nat.{ℕ, _<_, _≤_}
+use Prim.Native.Nat.{ℕ, zero, suc, _+_, _<_, _≤_}
 use native.Mathlib.Omega.{arith}
-use borrow.Author.Tests.{le-leb}
-use lib.Dec.{T}
+use borrow.Author.Tests.{le-leb, ne-eqb}
+use lib.Dec.{T, ltb, ltb→lt}
 use lib.ListN.{length, drop, getD, List·getD-append}
 use Rattle.slices.specs.Over.{over}
 use Rattle.slices.proofs.Over.{over-past, over-long}
-use Rattle.questions.specs.Questions.{asks, firstNo, unlessRefused}
+use Rattle.questions.specs.Questions.{unlessRefused}
+use Rattle.questions.proofs.Questions.{TurnsAway, alone}
 use Rattle.equations.specs.declared.Mark.{Mark}
 use Rattle.equations.specs.declared.Mark.the-variants.{Pass, Fail}
 use Rattle.equations.specs.Line.{Line}
@@ -23,8 +24,9 @@ use Rattle.ledger.specs.Ledger.{Ledger, opened}
 use Rattle.ledger.specs.Shapes.{isClaim, entriesOf, claimFrom}
 use Rattle.ledger.specs.Classes.{mostClaims, claimsIn}
 use Rattle.ledger.specs.Marking.{claimMark}
-use Rattle.ledger.specs.Calls.{classes, queries}
-use Rattle.ledger.specs.Questions.{refusalOf}
+use Rattle.ledger.specs.Calls.{marks, classes, queries}
+use Rattle.ledger.specs.Questions.{questions, refusalOf}
+use Rattle.ledger.proofs.Questions.{refused-exactly}
 use Rattle.ledger.proofs.Classes.{stray-first, stray-shape}
 use Rattle.sheet.specs.declared.marking.Marked.the-variants.{Gets, Refused as Marked·Refused}
 use Rattle.sheet.specs.declared.classing.Classed.the-variants.{Claims}
@@ -36,26 +38,16 @@ use Rattle.sheet.proofs.Classes.{map-at, bytes-count, class-few, class-
 
 -- ---- one byte
 
--- a claim's byte by its two questions, shape and entries
-by-questions : (shape below : Bool) (mark : Mark)
-    → markByte (unlessRefused Marked·Refused (firstNo (asks 4 true ∷ asks 1 shape ∷ asks 6 below ∷ [])) (Gets mark))
-    ≡ cond shape (cond below (markNumber mark) 106) 101
-by-questions false below mark = refl
-by-questions true false mark = refl
-by-questions true true mark = refl
-
 mark-small : (mark : Mark) → markNumber mark < 2
 mark-small Pass = omega arith
 mark-small Fail = omega arith
 
--- which question turned it away
-tells-question : (shape below : Bool) (k : ℕ) → k < 2
-    → ((cond shape (cond below k 106) 101 ≡ 101) ↔ (T shape → ⊥))
-    × ((cond shape (cond below k 106) 101 ≡ 106) ↔ (T shape × (T below → ⊥)))
-tells-question false below k small = (((λ e no. no), λ no. refl), ((λ e. absurd (omega arith)), λ both. absurd (both .0)))
-tells-question true false k small = (((λ e. absurd (omega arith)), λ no. absurd (no tt)), ((λ e. (tt, λ no. no)), λ both. refl))
-tells-question true true k small =
-    (((λ e. absurd (omega arith)), λ no. absurd (no tt)), ((λ e. absurd (omega arith)), λ both. absurd (both .1 tt)))
+-- a byte above 100 is "the refusal number plus 100"
+by-refusal : (r k : ℕ) (mark : Mark) → 0 < k → (markByte (unlessRefused Marked·Refused r (Gets mark)) ≡ 100 + k) ↔ (r ≡ k)
+by-refusal zero k mark some = ((λ e. absurd (omega (arith, mark-small mark, e))), λ is. absurd (omega (arith, some, is)))
+by-refusal (suc r) k mark some =
+    subst (λ (b : Bool). (markByte (cond b (Gets mark) (Marked·Refused (suc r))) ≡ 100 + k) ↔ (suc r ≡ k)) (sym (ne-eqb (suc r) 0 (λ e. omega (arith, e))))
+    ((λ e. omega (arith, e)), λ is. ap (λ (j : ℕ). 100 + j) is)
 
 module _ (m n : ℕ) (ls : List Line) (ws : List ℕ) where
   abbrev byte : ℕ
@@ -67,15 +59,17 @@ module _ (m n : ℕ) (ls : List Line) (ws : List ℕ) where
   abbrev below : Bool
   below = allBelow m (entriesOf (wordsIn ws))
 
-  abbrev number : ℕ
-  number = markNumber (claimMark (opened m n ls) ws)
+  asked : (k i : ℕ) → T (ltb 0 k) → T (alone k i (questions (opened m n ls) (queries (marks ws))))
+      → (byte ≡ 100 + k) ↔ TurnsAway (questions (opened m n ls) (queries (marks ws))) i
+  unfolding markedOf
+  asked k i some own =
+      Iff·trans (by-refusal _ k (claimMark (opened m n ls) ws) (ltb→lt 0 k some)) (refused-exactly (opened m n ls) (queries (marks ws)) k i some own)
 
-  by-shape : byte ≡ cond shape (cond below number 106) 101
-  unfolding markedOf refusalOf
-  by-shape = by-questions shape below (claimMark (opened m n ls) ws)
+  misshapen : (byte ≡ 101) ↔ (T shape → ⊥)
+  misshapen = let given = asked 1 1 tt tt in ((λ e. given .0 e .1), λ no. given .1 (tt, no))
 
-  tells : ((byte ≡ 101) ↔ (T shape → ⊥)) × ((byte ≡ 106) ↔ (T shape × (T below → ⊥)))
-  tells = rw by-shape (tells-question shape below number (mark-small (claimMark (opened m n ls) ws)))
+  not-below : (byte ≡ 106) ↔ (T shape × (T below → ⊥))
+  not-below = let given = asked 6 2 tt tt in ((λ e. given .0 e .1), λ both. given .1 (tt, both))
 
   abbrev Right : Type 0
   Right = DescribesSolutions m n ls (claimFrom n (wordsIn ws))
@@ -91,12 +85,12 @@ module _ (m n : ℕ) (ls : List Line) (ws : List ℕ) where
       record {
         passed = λ well. tells-mark pos well .0;
         failed = λ well. tells-mark pos well .1;
-        misshapen = tells .0;
-        notBelow = tells .1;
+        misshapen = misshapen;
+        notBelow = not-below;
       }
 
 pub right-strays : StrayWords
-right-strays m n ls w ws stray = (stray-first n w stray ws, tells m n ls (w ∷ []) .0 .1 (stray-shape n w stray))
+right-strays m n ls w ws stray = (stray-first n w stray ws, misshapen m n ls (w ∷ []) .1 (stray-shape n w stray))
 
 -- ---- all bytes
 

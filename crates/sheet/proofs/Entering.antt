@@ -7,7 +7,7 @@
 --   add-opened                        an accepted equation is asked of an opened sheet
 --   line-long, line-own, line-lies    the residues are those of its words,
 --   typed-lies                        or what the reader gives
---   strike-opened, strike-some, strike-place, strike-accepted   an accepted strike has an equation to strike
+--   strike-opened, strike-some, strike-within, strike-accepted   an accepted strike has a line to strike, at its place
 use mathlib.Core.Path.{_≡_, refl, sym, ap, ap₂, subst, _∙_}
 use mathlib.Core.Bool.{true}
 use mathlib.Core.List.{List, [], _∷_}
@@ -39,7 +39,7 @@ use Rattle.ledger.specs.Ledger.{unopened, isOpened, modulusOf, unknownsOf, line
 use Rattle.ledger.specs.Shapes.{numberAt, isOpening, ownModulus, equationWords, lineFrom}
 use Rattle.ledger.specs.Calls.{Entry, opens, adds, strikes, enters}
 use Rattle.ledger.specs.Questions.{questions, refusalOf}
-use Rattle.ledger.specs.History.{Effect, gains, loses, effectOf, changed}
+use Rattle.ledger.specs.History.{Effect, gains, loses, struckAt, effectOf, changed}
 use Rattle.ledger.proofs.Shapes.{opening-length}
 use Rattle.ledger.proofs.Questions.{opens-any, accepted-yes}
 use Rattle.ledger.proofs.Effects.{Gains, Allows, residues-long, accepted-allows, enter-accepted, gains-counts, loses-counts}
@@ -206,10 +206,10 @@ typed-lies s x {seen} sees line lies =
 
 -- ---- strike
 
-module _ (s : Sheet) (k : ℕ) {seen : Seen} (sees : Sees (ledgerOf s) seen) (number : ℕ)
-    (is : number ≡ refusalOf (ledgerOf s) (enters (strikes k))) (none : number ≡ 0) where
-  struck : Allows (ledgerOf s) (loses (length (linesIn (ledgerOf s)) - 1))
-  struck = accepted-allows (ledgerOf s) (strikes k) (sym is ∙ none)
+module _ (s : Sheet) (place : ℕ) {seen : Seen} (sees : Sees (ledgerOf s) seen) (number : ℕ)
+    (is : number ≡ refusalOf (ledgerOf s) (enters (strikes place))) (none : number ≡ 0) where
+  struck : Allows (ledgerOf s) (loses (struckAt (length (linesIn (ledgerOf s))) place))
+  struck = accepted-allows (ledgerOf s) (strikes place) (sym is ∙ none)
 
   pub strike-opened : T (isOpened (ledgerOf s))
   strike-opened = struck .0
@@ -217,12 +217,19 @@ module _ (s : Sheet) (k : ℕ) {seen : Seen} (sees : Sees (ledgerOf s) seen) (nu
   pub strike-some : 0 < seen .held
   strike-some = omega (arith, struck .1, sees .held)
 
-  pub strike-place : seen .held - 1 < heldIn s
-  strike-place = omega (arith, strike-some, seen-held s (true-of (isOpened (ledgerOf s)) strike-opened) sees)
+  -- the strike's line, counted from 0
+  module _ {at : ℕ} (lies : at ≡ struckAt (seen .held) place) where
+    same-place : at ≡ struckAt (length (linesIn (ledgerOf s))) place
+    same-place = lies ∙ ap (λ (k : ℕ). struckAt k place) (sees .held)
 
-  pub strike-accepted : {after : Sheet} → after ≡ recordBy s (loses (seen .held - 1))
-      → (Holds (seen .held - 1) ≡ enteredOf (ledgerOf s) (strikes k)) × (after ≡ sheetAfter s (strikes k))
-  strike-accepted =
-      entry-accepted s (strikes k) number is none (loses (seen .held - 1))
-      (ap (λ (j : ℕ). loses (j - 1)) (sym (sees .held))) (seen .held - 1)
-      (loses-counts (ledgerOf s) (seen .held - 1) (omega (arith, strike-some, sees .held)) ∙ ap (λ (j : ℕ). j - 1) (sym (sees .held)))
+    at-within : at < length (linesIn (ledgerOf s))
+    at-within = subst (λ (j : ℕ). j < length (linesIn (ledgerOf s))) (sym same-place) (struck .1)
+
+    pub strike-within : at < heldIn s
+    strike-within = omega (arith, at-within, sees .held, seen-held s (true-of (isOpened (ledgerOf s)) strike-opened) sees)
+
+    pub strike-accepted : {after : Sheet} → after ≡ recordBy s (loses at)
+        → (Holds (seen .held - 1) ≡ enteredOf (ledgerOf s) (strikes place)) × (after ≡ sheetAfter s (strikes place))
+    strike-accepted =
+        entry-accepted s (strikes place) number is none (loses at) (ap loses (sym same-place)) (seen .held - 1)
+        (loses-counts (ledgerOf s) at at-within ∙ ap (λ (k : ℕ). k - 1) (sym (sees .held)))

@@ -20,4 +20,5 @@ pub mod Classed
 pub mod Said
 pub mod Added
 pub mod Typed
+pub mod Struck
 pub mod Promises

@@ -5,6 +5,7 @@
 --   own-block-passes    an answer's own block passes
 --   added-always        an equation in words is added as document 02 says, minus signs and large numbers included,
 --   typed-always        and a typed one is turned away or added so
+--   struck-always       a strike at any place leaves the other lines in order, and the answer is theirs
 --   reason-always       a claim that fails is told a true reason,
 --   same-refusals       and what marking turns away is turned away so
 --   class-always        the claims of a class are marked as each is singly,
@@ -41,7 +42,7 @@ use Rattle.sheet.specs.declared.marking.Marked.the-variants.{Gets}
 use Rattle.sheet.specs.Record.{Sheet, fresh, ledgerOf}
 use Rattle.sheet.specs.Calls.{enteredOf, answeredOf, bufferAfter, shownOf, markedOf, reasonedOf, shownAfter, classedOf, marksAfter}
 use Rattle.sheet.specs.History.{sheetFrom, after}
-use Rattle.sheet.specs.Promises.{NothingSolves, Shows, RightMark, RightSheet, Demand3, DecidedAlways, OwnBlockPasses, ZerosAreFresh, RightAlways, ReadsOn, AddedAlways, TypedAlways, ReasonAlways, SameRefusals, ClassAlways, StrayWords}
+use Rattle.sheet.specs.Promises.{NothingSolves, Shows, RightMark, RightSheet, Demand3, DecidedAlways, OwnBlockPasses, ZerosAreFresh, RightAlways, ReadsOn, AddedAlways, TypedAlways, StruckAlways, ReasonAlways, SameRefusals, ClassAlways, StrayWords}
 use Rattle.sheet.proofs.Reading.{reads-allowed}
 use Rattle.sheet.proofs.History.{from-reads, fresh-unopened, after-reads, left-refused}
 use Rattle.sheet.proofs.Solved.{solved-words, shown-block}
@@ -53,6 +54,7 @@ use Rattle.sheet.proofs.Classes.{classed-asked, marks-asked}
 use Rattle.sheet.proofs.Classed.{right-class, right-strays}
 use Rattle.sheet.proofs.Added.{right-adding}
 use Rattle.sheet.proofs.Typed.{right-typing}
+use Rattle.sheet.proofs.Struck.{right-striking}
 
 -- ---- demand 3
 
@@ -125,6 +127,9 @@ added-always s m n ls ws reads = right-adding s m n ls ws reads
 
 pub typed-always : TypedAlways
 typed-always s m n ls text reads = right-typing s m n ls text reads (positive s m n ls reads)
+
+pub struck-always : StruckAlways
+struck-always = right-striking right-always
 
 pub reason-always : ReasonAlways
 reason-always s m n ls ws reads well = right-reason m n ls ws (allowed s m n ls reads) well s reads

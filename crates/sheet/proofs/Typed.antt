@@ -6,11 +6,12 @@ use Prim.Native.Nat.{ℕ, _<_}
 use lib.Dec.{T}
 use Rattle.equations.specs.Equation.{Equation, solvesOne}
 use Rattle.equations.specs.Line.{Line}
+use Rattle.equations.proofs.Truth.{false-of, of-false}
 use Rattle.grammar.specs.Tree.{Sides}
 use Rattle.grammar.specs.Grammar.{Typed}
 use Rattle.grammar.specs.Meaning.{HoldsMod}
 use Rattle.grammar.specs.Linear.{sidesWithin, sidesLinear, equationOf}
-use Rattle.grammar.specs.Texts.{typedOf, passes, equationIn}
+use Rattle.grammar.specs.Texts.{typedOf, isTyped, passes, equationIn}
 use Rattle.grammar.proofs.Texts.{not-typed, passed, read-typed}
 use Rattle.grammar.proofs.Promises.{holds-exactly}
 use Rattle.ledger.specs.Ledger.{Ledger, opened}
@@ -18,7 +19,6 @@ use Rattle.ledger.specs.Calls.{types, enters}
 use Rattle.ledger.specs.Questions.{refusalOf}
 use Rattle.ledger.specs.History.{gains}
 use Rattle.ledger.proofs.Questions.{accepted-yes}
-use Rattle.ledger.proofs.Typing.{eleven-given}
 use Rattle.sheet.specs.declared.Entered.the-variants.{Refused}
 use Rattle.sheet.specs.Record.{Sheet, ledgerOf}
 use Rattle.sheet.specs.Calls.{enteredOf}
@@ -30,11 +30,11 @@ module _ (m n : ℕ) (ls : List Line) (text : List ℕ) where
   l = opened m n ls
 
   eleven-said : (enteredOf l (types text) ≡ Refused 11) ↔ NoEquation text
-  unfolding enteredOf
-  eleven-said = (
-    (λ said. not-typed text .0 (eleven-given m n ls text .0 (refused-said l (types text) 11 said))),
-    λ out. rw (eleven-given m n ls text .1 (not-typed text .1 out)),
-  )
+  eleven-said =
+      let said = refused-said l (types text) 11 1 tt tt in (
+        (λ refused. not-typed text .0 (false-of (isTyped text) (said .0 refused .1))),
+        λ out. said .1 (tt, of-false (not-typed text .1 out)),
+      )
 
   -- the equation that is typed in an accepted text, and the one added
   typed-added : 0 < m → refusalOf l (enters (types text)) ≡ 0

@@ -37,7 +37,7 @@ use Rattle.ledger.specs.Shapes.{isEquation, ownModulus, equationWords, isClaim,
 use Rattle.ledger.specs.Block.{longestBlock, blockWords, answerWords}
 use Rattle.ledger.specs.Marking.{claimMark, claimReason, shownKind, reasonWords}
 use Rattle.ledger.specs.Classes.{mostClaims, claimsIn}
-use Rattle.ledger.specs.Calls.{Call, Entry, opens, adds, types, answers, answersFromTape, marks, reasons, classes, enters, queries}
+use Rattle.ledger.specs.Calls.{Call, Entry, opens, adds, types, strikes, answers, answersFromTape, marks, reasons, classes, enters, queries}
 use Rattle.ledger.specs.Questions.{plain, refusalOf}
 use Rattle.ledger.specs.History.{enter, ledgerFrom, ledger}
 use Rattle.sheet.specs.declared.Entered.the-variants.{Holds, Refused as Entered·Refused}
@@ -120,7 +120,7 @@ pub record Promised (calls : List Call) : Type 0 where
   pub right : RightSheet (after calls) m n ls
 
 -- "For every list of the calls open, add, strike, answer and mark from a fresh sheet, refused calls anywhere in it and
--- at least one opening accepted"
+-- at least one opening accepted"; "the whole-list statement holds with strikes at any place"
 abbrev pub Demand3 : Type 0
 Demand3 = (calls : List Call) → OpeningAccepted calls → Promised calls
 
@@ -205,6 +205,28 @@ abbrev pub AddedAlways : Type 0
 AddedAlways =
     (s : Sheet) (m n : ℕ) (ls : List Line) (ws : List ℕ) → ledgerOf s ≡ opened m n ls
     → RightAdding s m n ls ws (ownModulus m (wordsIn ws))
+
+-- the place of the line between these: "a place, 1 for the first; 0 means the last"
+abbrev pub PlaceBetween : List Line → List Line → ℕ → Type 0
+PlaceBetween earlier later place = (place ≡ suc (length earlier)) ⊎ ((place ≡ 0) × (later ≡ []))
+
+-- What document 02 says of a strike, S-7, on a sheet whose ledger has m, n and ls.
+pub record RightStriking (s : Sheet) (m n : ℕ) (ls : List Line) (place : ℕ) : Type 0 where
+  -- "An equation there? 7.": where none is, whatever the place
+  pub seven : (enteredOf (ledgerOf s) (strikes place) ≡ Entered·Refused 7) ↔ (ls ≡ [])
+  -- "after 7, a place beyond the lines held 16"
+  pub sixteen : (enteredOf (ledgerOf s) (strikes place) ≡ Entered·Refused 16) ↔ ((ls ≡ [] → ⊥) × (length ls < place))
+  -- "A refusal gives its number; sheet and lent memory keep their content."
+  pub kept : (k : ℕ) → enteredOf (ledgerOf s) (strikes place) ≡ Entered·Refused k → sheetAfter s (strikes place) ≡ s
+  -- the line at any other place goes: "Later lines close up in order, and the answer is the one for the lines left."
+  pub struck : (earlier : List Line) (line : Line) (later : List Line) → ls ≡ earlier ++ (line ∷ later) → PlaceBetween earlier later place
+      → (enteredOf (ledgerOf s) (strikes place) ≡ Holds (length (earlier ++ later)))
+      × (ledgerOf (sheetAfter s (strikes place)) ≡ opened m n (earlier ++ later))
+      × RightSheet (sheetAfter s (strikes place)) m n (earlier ++ later)
+
+-- Whatever the memory holds, and so after every list of calls.
+abbrev pub StruckAlways : Type 0
+StruckAlways = (s : Sheet) (m n : ℕ) (ls : List Line) (place : ℕ) → ledgerOf s ≡ opened m n ls → RightStriking s m n ls place
 
 -- What document 02 says of the reason of a well-formed claim, S-5, on a sheet whose ledger has m, n and ls.
 pub record RightReason (s : Sheet) (m n : ℕ) (ls : List Line) (ws : List ℕ) : Type 0 where

@@ -54,7 +54,7 @@ acceptedLines l (enters (opens ws)) = line "open" (numberAt (wordsIn ws) 0 ∷ n
 acceptedLines l (enters (adds ws)) = line "added" (heldAfter l (adds ws))
 -- on tape there is no text; it would be an add
 acceptedLines l (enters (types text)) = line "added" (heldAfter l (types text))
-acceptedLines l (enters (strikes number)) = line "struck" (heldAfter l (strikes number))
+acceptedLines l (enters (strikes place)) = line "struck" (heldAfter l (strikes place))
 acceptedLines l (queries (answers buffer)) = answerLines l
 acceptedLines l (queries (answersFromTape w)) = answerLines l
 acceptedLines l (queries (marks ws)) = markLine (claimMark l ws)

@@ -37,7 +37,7 @@ mul-filled c =
 sub-move-up : tie.Need-sub-move-up
 sub-move-up c =
     let z = c .before .before .before .before .before in
-    place-within (now (z .args .sheet)) (z .pre .0) (c .wide2 .ensures) (c .before .wide .ensures) (z .args .place) (z .pre .1)
+    place-within (now (z .args .sheet)) (z .pre .0) (c .wide2 .ensures) (c .before .wide .ensures) (z .args .index) (z .pre .1)
 
 mul-front : tie.Need-mul-front
 mul-front c = omega (arith, sub-move-up c)
@@ -57,7 +57,7 @@ part-move-up-end c = search needs
 sub-move-up-3 : tie.Need-sub-move-up-3
 sub-move-up-3 c =
     let z = c .before .before .before .before .before .before in
-    line-behind (now (z .args .sheet)) (z .pre .0) (c .before .wide2 .ensures) (c .before .before .wide .ensures) (z .args .place) (z .pre .1)
+    line-behind (now (z .args .sheet)) (z .pre .0) (c .before .wide2 .ensures) (c .before .before .wide .ensures) (z .args .index) (z .pre .1)
 
 sub-move-up-2 : tie.Need-sub-move-up-2
 sub-move-up-2 c = omega (arith, sub-move-up-3 c)
@@ -65,7 +65,7 @@ sub-move-up-2 c = omega (arith, sub-move-up-3 c)
 move-up-requires : tie.Need-move-up-requires
 move-up-requires c κs =
     let z = c .before .before .before .before .before .before in
-    moving-fits (now (z .args .sheet)) (z .pre .0) (c .before .wide2 .ensures) (c .before .before .wide .ensures) (z .args .place) (z .pre .1)
+    moving-fits (now (z .args .sheet)) (z .pre .0) (c .before .wide2 .ensures) (c .before .before .wide .ensures) (z .args .index) (z .pre .1)
 
 add-own : tie.Need-add-own
 add-own c =
@@ -79,7 +79,7 @@ sub-move-up-4 c =
       arith,
       z .pre .1,
       held-small s (z .pre .0),
-      between-long s (z .pre .0) (c .before .before .before .before .wide2 .ensures) (c .before .before .before .before .before .wide .ensures) (z .args .place) (z .pre .1) (c .before .before .move-up .ensures),
+      between-long s (z .pre .0) (c .before .before .before .before .wide2 .ensures) (c .before .before .before .before .before .wide .ensures) (z .args .index) (z .pre .1) (c .before .before .move-up .ensures),
     )
 
 mul-move-up-2 : tie.Need-mul-move-up-2
@@ -103,8 +103,8 @@ sub-move-up-6 c = search needs
 move-up-requires-2 : tie.Need-move-up-requires-2
 move-up-requires-2 c κs =
     let z = c .before .before .before .before .before .before .before .before .before .before .before in
-    own-moving-fits (now (z .args .sheet)) (z .pre .0) (c .before .before .before .before .before .before .wide2 .ensures) (c .before .before .before .before .before .before .before .wide .ensures) (z .args .place) (z .pre .1) (c .before .before .before .before .move-up .ensures)
-    (3 + z .args .place) (c .wide3 .result - z .args .place - 1) refl (ap (λ (k : ℕ). k - z .args .place - 1) (c .wide3 .ensures))
+    own-moving-fits (now (z .args .sheet)) (z .pre .0) (c .before .before .before .before .before .before .wide2 .ensures) (c .before .before .before .before .before .before .before .wide .ensures) (z .args .index) (z .pre .1) (c .before .before .before .before .move-up .ensures)
+    (3 + z .args .index) (c .wide3 .result - z .args .index - 1) refl (ap (λ (k : ℕ). k - z .args .index - 1) (c .wide3 .ensures))
 
 sub-sheet : tie.Need-sub-sheet
 sub-sheet c = search needs
@@ -114,22 +114,22 @@ slice-write-sheet c =
     let z = c .before .before .before .before .before .before .before .before .before .before .before .before .before .before in
     let held = c .before .before .before .wide3 in
     subst (λ (k : ℕ). 2 < k)
-    (sym (again-long (now (z .args .sheet)) (z .pre .0) (c .before .before .before .before .before .before .before .before .before .wide2 .ensures) (c .before .before .before .before .before .before .before .before .before .before .wide .ensures) (z .args .place) (z .pre .1) (c .before .before .before .before .before .before .before .move-up .ensures)
-    (3 + z .args .place) (held .result - z .args .place - 1) refl (ap (λ (k : ℕ). k - z .args .place - 1) (held .ensures)) (c .before .before .move-up2 .ensures))) (omega arith)
+    (sym (again-long (now (z .args .sheet)) (z .pre .0) (c .before .before .before .before .before .before .before .before .before .wide2 .ensures) (c .before .before .before .before .before .before .before .before .before .before .wide .ensures) (z .args .index) (z .pre .1) (c .before .before .before .before .before .before .before .move-up .ensures)
+    (3 + z .args .index) (held .result - z .args .index - 1) refl (ap (λ (k : ℕ). k - z .args .index - 1) (held .ensures)) (c .before .before .move-up2 .ensures))) (omega arith)
 
 same-length : tie.Need-same-length
 same-length c =
     let z = c .before .before .before .before .before .before .before .before .before .before .before .before .before .before in
     let held = c .before .before .before .wide3 in
-    moved-length (now (z .args .sheet)) (z .pre .0) (c .before .before .before .before .before .before .before .before .before .wide2 .ensures) (c .before .before .before .before .before .before .before .before .before .before .wide .ensures) (z .args .place) (z .pre .1) (c .before .before .before .before .before .before .before .move-up .ensures)
-    (3 + z .args .place) (held .result - z .args .place - 1) refl (ap (λ (k : ℕ). k - z .args .place - 1) (held .ensures)) (c .before .before .move-up2 .ensures)
+    moved-length (now (z .args .sheet)) (z .pre .0) (c .before .before .before .before .before .before .before .before .before .wide2 .ensures) (c .before .before .before .before .before .before .before .before .before .before .wide .ensures) (z .args .index) (z .pre .1) (c .before .before .before .before .before .before .before .move-up .ensures)
+    (3 + z .args .index) (held .result - z .args .index - 1) refl (ap (λ (k : ℕ). k - z .args .index - 1) (held .ensures)) (c .before .before .move-up2 .ensures)
 
 returns : tie.Need-returns
 returns c =
     let z = c .before .before .before .before .before .before .before .before .before .before .before .before .before .before in
     let held = c .before .before .before .wide3 in
-    moved-up (now (z .args .sheet)) (z .pre .0) (c .before .before .before .before .before .before .before .before .before .wide2 .ensures) (c .before .before .before .before .before .before .before .before .before .before .wide .ensures) (z .args .place) (z .pre .1) (c .before .before .before .before .before .before .before .move-up .ensures)
-    (3 + z .args .place) (held .result - z .args .place - 1) refl (ap (λ (k : ℕ). k - z .args .place - 1) (held .ensures)) (c .before .before .move-up2 .ensures)
+    moved-up (now (z .args .sheet)) (z .pre .0) (c .before .before .before .before .before .before .before .before .before .wide2 .ensures) (c .before .before .before .before .before .before .before .before .before .before .wide .ensures) (z .args .index) (z .pre .1) (c .before .before .before .before .before .before .before .move-up .ensures)
+    (3 + z .args .index) (held .result - z .args .index - 1) refl (ap (λ (k : ℕ). k - z .args .index - 1) (held .ensures)) (c .before .before .move-up2 .ensures)
 
 pub without-line-spec : {M : Type 1} → statement M
 without-line-spec =
