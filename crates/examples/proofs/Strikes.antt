@@ -73,21 +73,22 @@ middle-answered x y z = refl
 
 -- ---- without a solution: x = 0 mod 2, x = 2 mod 3, x = 1 mod 2
 
-abbrev contradicting : Ledger
-contradicting = opened 12 1 (is 2 0 ∷ is 3 2 ∷ is 2 1 ∷ [])
+abbrev contradicting : List Line
+contradicting = is 2 0 ∷ is 3 2 ∷ is 2 1 ∷ []
 
-pub none-first : (lineStart 12 1 (is 2 0 ∷ is 3 2 ∷ is 2 1 ∷ []) ≡ none)
-    × (lineRefutes 12 1 (is 2 0 ∷ is 3 2 ∷ is 2 1 ∷ []) (1 ∷ 0 ∷ 1 ∷ []) ≡ true)
+pub none-first : (lineStart 12 1 contradicting ≡ none) × (lineRefutes 12 1 contradicting (1 ∷ 0 ∷ 1 ∷ []) ≡ true)
 unfolding lineStart lineRefutes refutes
 none-first = (refl, refl)
 
 -- without the first there is one, from 5
-pub solvable-again : (leaving contradicting 1 ≡ opened 12 1 (is 3 2 ∷ is 2 1 ∷ [])) × (lineStart 12 1 (is 3 2 ∷ is 2 1 ∷ []) ≡ some (5 ∷ []))
+pub solvable-again : (leaving (opened 12 1 contradicting) 1 ≡ opened 12 1 (is 3 2 ∷ is 2 1 ∷ []))
+    × (lineStart 12 1 (is 3 2 ∷ is 2 1 ∷ []) ≡ some (5 ∷ []))
 unfolding enter refusalOf lineStart
 solvable-again = (refl, refl)
 
 -- without the second there is none, and of a multiplier for each line left 1 1 serve: 6x = 0 and 6x = 6 are added up
-pub none-still : (leaving contradicting 2 ≡ opened 12 1 (is 2 0 ∷ is 2 1 ∷ [])) × (lineStart 12 1 (is 2 0 ∷ is 2 1 ∷ []) ≡ none)
+pub none-still : (leaving (opened 12 1 contradicting) 2 ≡ opened 12 1 (is 2 0 ∷ is 2 1 ∷ []))
+    × (lineStart 12 1 (is 2 0 ∷ is 2 1 ∷ []) ≡ none)
     × (lineRefutes 12 1 (is 2 0 ∷ is 2 1 ∷ []) (1 ∷ 1 ∷ []) ≡ true)
 unfolding enter refusalOf lineStart lineRefutes refutes
 none-still = (refl, refl, refl)

@@ -8,7 +8,8 @@ use mathlib.Core.Logic.{_↔_}
 use mathlib.Core.List.{List}
 use Prim.Native.Nat.{ℕ}
 use lib.Dec.{T, ltb}
-use Rattle.questions.proofs.Questions.{numbered, AllYes, all-yes, TurnsAway, alone, given-exactly}
+use Rattle.questions.proofs.Questions.{numbered, AllYes, all-yes}
+use Rattle.questions.proofs.Given.{TurnsAway, alone, given-exactly}
 use Rattle.ledger.specs.Ledger.{Ledger, unopened}
 use Rattle.ledger.specs.Calls.{opens, adds, types, strikes}
 use Rattle.ledger.specs.Calls.{answers, answersFromTape, marks, reasons, classes, meaningless}

@@ -5,22 +5,19 @@
 --   AllYes, all-yes   each question has the answer yes; so it is where none turns a call away
 --   unless-either     what a call gives is its answer, and nothing turned it away, or the refusal
 --   first-no-append   the questions of a second list are asked where none of the first turns a call away
---   TurnsAway         the question at this place turns a call away: those before it have the answer yes, and its own is no
---   alone             it has this number, and no other has; a test, so that a list shows it by computing
---   given-exactly     such a number is given exactly where its question turns the call away
 --   within-range      the test of a modulus or of a number of unknowns says that it lies in its range
 --   own-least         a line's modulus is 2 at least,
 --   whole-own         and the sheet's may be one
 use mathlib.Core.Path.{_≡_, refl}
 use mathlib.Core.Logic.{_↔_, _⊎_, inl, inr}
-use mathlib.Core.Bool.{Bool, true, false, cond, not, _&&_}
+use mathlib.Core.Bool.{Bool, true, false, cond, _&&_}
 use mathlib.Core.List.{List, [], _∷_, _++_}
-use Prim.Native.Nat.{ℕ, zero, suc, _%_, _≤_}
+use Prim.Native.Nat.{ℕ, _%_, _≤_}
 use native.Mathlib.Nat.{mod-self}
 use native.Mathlib.Omega.{arith}
 use borrow.Author.Tests.{ne-eqb, eqb-true, eqb-false}
-use lib.Dec.{T, eqb, leb, ltb, eqb→eq, leb→le, le→leb, ltb→lt}
-use mir.Facts.{and-yes, yes-and, yes-eqb, T-not}
+use lib.Dec.{T, eqb, leb, ltb, leb→le, le→leb, ltb→lt}
+use mir.Facts.{and-yes, yes-and, yes-eqb}
 use Rattle.questions.specs.Questions.{Question, firstNo, unlessRefused, allowedOwn}
 
 abbrev pub numbered : List Question → Bool
@@ -68,48 +65,6 @@ first-no-append (q ∷ qs) rest numbers =
         ≡ unlessRefused (λ k. k) (cond test (firstNo qs) (q .number)) (firstNo rest)
     go true n h = h
     go false n h = rw (ne-eqb (q .number) 0 (λ e. omega (arith, ltb→lt 0 (q .number) n)))
-
-abbrev pub TurnsAway : List Question → ℕ → Type 0
-TurnsAway [] i = ⊥
-TurnsAway (q ∷ qs) zero = T (q .yes) → ⊥
-TurnsAway (q ∷ qs) (suc i) = T (q .yes) × TurnsAway qs i
-
--- no question has this number
-abbrev pub hasNot : ℕ → List Question → Bool
-hasNot k [] = true
-hasNot k (q ∷ qs) = not (eqb (q .number) k) && hasNot k qs
-
-abbrev pub alone : ℕ → ℕ → List Question → Bool
-alone k i [] = false
-alone k zero (q ∷ qs) = eqb (q .number) k && hasNot k qs
-alone k (suc i) (q ∷ qs) = not (eqb (q .number) k) && alone k i qs
-
-module _ (k : ℕ) (some : T (ltb 0 k)) where
-  never-given : (qs : List Question) → T (hasNot k qs) → firstNo qs ≡ k → ⊥
-  never-given [] other is = omega (arith, ltb→lt 0 k some)
-  never-given (q ∷ qs) other is =
-      let o = and-yes (not (eqb (q .number) k)) (hasNot k qs) other in go (q .yes) (o .0) (never-given qs (o .1)) is
-    where
-      go : (test : Bool) → T (not (eqb (q .number) k)) → (firstNo qs ≡ k → ⊥) → cond test (firstNo qs) (q .number) ≡ k → ⊥
-      go true o rest is = rest is
-      go false o rest is = T-not (eqb (q .number) k) (yes-eqb is) o
-
-  pub given-exactly : (i : ℕ) (qs : List Question) → T (alone k i qs) → (firstNo qs ≡ k) ↔ TurnsAway qs i
-  given-exactly i [] other = absurd other
-  given-exactly zero (q ∷ qs) other =
-      let o = and-yes (eqb (q .number) k) (hasNot k qs) other in
-      go (q .yes) (eqb→eq (q .number) k (o .0)) (never-given qs (o .1))
-    where
-      go : (test : Bool) → q .number ≡ k → (firstNo qs ≡ k → ⊥) → (cond test (firstNo qs) (q .number) ≡ k) ↔ (T test → ⊥)
-      go true own rest = ((λ is. absurd (rest is)), λ no. absurd (no tt))
-      go false own rest = ((λ is no. no), λ no. own)
-  given-exactly (suc i) (q ∷ qs) other =
-      let o = and-yes (not (eqb (q .number) k)) (alone k i qs) other in go (q .yes) (o .0) (given-exactly i qs (o .1))
-    where
-      go : (test : Bool) → T (not (eqb (q .number) k)) → (firstNo qs ≡ k) ↔ TurnsAway qs i
-          → (cond test (firstNo qs) (q .number) ≡ k) ↔ (T test × TurnsAway qs i)
-      go true o (to, from) = ((λ is. (tt, to is)), λ both. from (both .1))
-      go false o (to, from) = ((λ is. absurd (T-not (eqb (q .number) k) (yes-eqb is) o)), λ both. absurd (both .0))
 
 pub within-range : (low k high : ℕ) → T (leb low k && leb k high) ↔ ((low ≤ k) × (k ≤ high))
 within-range low k high = (

@@ -13,7 +13,7 @@ use lib.ListN.{length, drop, getD, List·getD-append}
 use Rattle.slices.specs.Over.{over}
 use Rattle.slices.proofs.Over.{over-past, over-long}
 use Rattle.questions.specs.Questions.{unlessRefused}
-use Rattle.questions.proofs.Questions.{TurnsAway, alone}
+use Rattle.questions.proofs.Given.{TurnsAway, alone}
 use Rattle.equations.specs.declared.Mark.{Mark}
 use Rattle.equations.specs.declared.Mark.the-variants.{Pass, Fail}
 use Rattle.equations.specs.Line.{Line}

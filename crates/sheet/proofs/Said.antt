@@ -14,7 +14,7 @@ use native.Mathlib.Omega.{arith}
 use borrow.Author.Tests.{ne-eqb, eqb-true}
 use lib.Dec.{T, eqb, ltb, ltb→lt}
 use lib.ListN.{length}
-use Rattle.questions.proofs.Questions.{TurnsAway, alone}
+use Rattle.questions.proofs.Given.{TurnsAway, alone}
 use Rattle.equations.specs.Line.{Line}
 use Rattle.ledger.specs.Ledger.{Ledger, opened, linesIn}
 use Rattle.ledger.specs.Calls.{Entry, enters}

@@ -32,13 +32,7 @@ sub-fewer c =
     strike-some s (a .place) (seen .ensures .0) (asked .result) is (c .before .if1 .left)
 
 struck-at-requires : tie.Need-struck-at-requires
-struck-at-requires c κs =
-    let a = c .before .before .before .before .before .before .args in
-    let s = now (a .sheet) in
-    let seen = c .before .before .before .before .seen in
-    let asked = c .before .before .before .strike-refusal in
-    let is = asked .ensures (ledgerOf s) (seen .ensures .0) in
-    strike-some s (a .place) (seen .ensures .0) (asked .result) is (c .before .before .if1 .left)
+struck-at-requires c κs = sub-fewer (c .before)
 
 without-line-requires : tie.Need-without-line-requires
 without-line-requires c κs =
