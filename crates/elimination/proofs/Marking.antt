@@ -18,14 +18,14 @@ use Rattle.equations.specs.Lists.{every}
 use Rattle.equations.specs.Vectors.{Vector, combine}
 use Rattle.equations.specs.Equation.{Equation, solves, homogeneous, Shaped}
 use Rattle.equations.specs.Answer.{startOf}
-use Rattle.equations.specs.Claim.{noSolution, from, passes}
+use Rattle.equations.specs.Claim.{noSolution, from, isRight}
 use Rattle.equations.proofs.Truth.{true-of, false-of, same-of-both}
 use Rattle.equations.proofs.Dot.{dot-zeros}
 use Rattle.equations.proofs.Vectors.{vector-length, vector-of, below-combine}
 use Rattle.equations.proofs.Combine.{combine-zeros, combine-difference}
 use Rattle.equations.proofs.Answer.{start-solves}
-use Rattle.equations.proofs.Passing.{none-passes}
-use Rattle.equations.proofs.Claim.{Described, describes-nothing, describes-exists, passes-all}
+use Rattle.equations.proofs.OwnAnswer.{none-right}
+use Rattle.equations.proofs.Claim.{Described, describes-nothing, describes-exists, right-all}
 use Rattle.elimination.specs.Basis.{basis, pivot}
 use Rattle.elimination.specs.Tableau.{tableau, tableauStart}
 use Rattle.elimination.specs.Marking.{agree, claimRight}
@@ -129,25 +129,25 @@ module _ (m n k : ℕ) (es : List Equation) (c : List ℕ) (cs : List (List ℕ)
       same-of-sets (solved .0) (λ W lw. span-in m n (Kernel m es) (linear-kernel m es) cs long steps W)
       (kernel-span m n k es cs pos shaped long (agree-of-test m n (tableau m n k es) (basis m n 0 cs) (all .1)) steps)
 
-  pub marking : claimRight m n k es c cs ≡ passes m n es (from c cs)
+  pub marking : claimRight m n k es c cs ≡ isRight m n es (from c cs)
   marking =
-      same-of-both (claimRight m n k es c cs) (passes m n es (from c cs))
-      (λ t. passes-all m n es (from c cs) .1
+      same-of-both (claimRight m n k es c cs) (isRight m n es (from c cs))
+      (λ t. right-all m n es (from c cs) .1
       (λ v vec. Iff·trans (describes-exists m c cs v) (same-of-right t v vec)))
       (λ t. right-of-same
-      (λ v vec. Iff·trans (Iff·symm (describes-exists m c cs v)) (passes-all m n es (from c cs) .0 t v vec)))
+      (λ v vec. Iff·trans (Iff·symm (describes-exists m c cs v)) (right-all m n es (from c cs) .0 t v vec)))
 
 -- "0 claims no solution": right exactly where the pivot of the constant's own row is not m
 pub marking-none : (m n k : ℕ) (es : List Equation) → 0 < m → Shaped n es
-    → (pivot n (tableau m n k es) ≡ m → passes m n es noSolution ≡ false)
-    × ((pivot n (tableau m n k es) ≡ m → ⊥) → passes m n es noSolution ≡ true)
+    → (pivot n (tableau m n k es) ≡ m → isRight m n es noSolution ≡ false)
+    × ((pivot n (tableau m n k es) ≡ m → ⊥) → isRight m n es noSolution ≡ true)
 marking-none m n k es pos shaped = (
-  (λ h. false-of (passes m n es noSolution) (described (answer-start m n k es pos shaped h))),
-  λ h. true-of (passes m n es noSolution) (none-passes m n es (answer-none m n k es pos shaped h)),
+  (λ h. false-of (isRight m n es noSolution) (described (answer-start m n k es pos shaped h))),
+  λ h. true-of (isRight m n es noSolution) (none-right m n es (answer-none m n k es pos shaped h)),
 )
   where
-    described : startOf m n es ≡ some (tableauStart m n k es) → T (passes m n es noSolution) → ⊥
+    described : startOf m n es ≡ some (tableauStart m n k es) → T (isRight m n es noSolution) → ⊥
     described h t =
         let start = tableauStart m n k es in
         let found = start-solves m n es start h in
-        describes-nothing m start (passes-all m n es noSolution .0 t start (found .0) .1 (found .1))
+        describes-nothing m start (right-all m n es noSolution .0 t start (found .0) .1 (found .1))

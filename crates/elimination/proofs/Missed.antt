@@ -5,7 +5,7 @@
 -- kernel's head would be m, and so would the span's, which divides m.
 --   apart-agree    the pivots agree exactly where no place is apart
 -- Where start and steps are right:
---   apart-passes   the claim passes exactly where no place is apart
+--   apart-right   the claim is right exactly where no place is apart
 --   apart-above    the tableau's pivot at the place apart is not 1
 --   missed-law     where the claim fails, the missed solution is one
 use mathlib.Core.Path.{_≡_, refl, sym, ap, ap₂, _∙_, subst}
@@ -23,7 +23,7 @@ use Rattle.residue.proofs.Divides.{divides-antisym, factor-positive}
 use Rattle.equations.specs.Lists.{every}
 use Rattle.equations.specs.Vectors.{Vector, AllVectors, combine}
 use Rattle.equations.specs.Equation.{Equation, solves, Shaped}
-use Rattle.equations.specs.Claim.{from, describes, passes}
+use Rattle.equations.specs.Claim.{from, describes, isRight}
 use Rattle.equations.specs.Reasons.{Solution, keeps}
 use Rattle.equations.proofs.Truth.{of-true, of-false, true-or-false}
 use Rattle.equations.proofs.Vectors.{vector-of, below-combine}
@@ -185,23 +185,23 @@ module _ (m n : ℕ) (es : List Equation) (c : List ℕ) (ss : List (List ℕ)) 
 
 module _ (m n : ℕ) (es : List Equation) (c : List ℕ) (ss : List (List ℕ)) (pos : 0 < m) (shaped : Shaped n es)
     (vec : Vector m n c) (vs : AllVectors m n ss) (start : solves m es c ≡ true) (steps : every (keeps m es) ss ≡ true) where
-  agree-passes : agree m n (tableau m n 0 es) (basis m n 0 ss) ≡ passes m n es (from c ss)
+  agree-right : agree m n (tableau m n 0 es) (basis m n 0 ss) ≡ isRight m n es (from c ss)
   unfolding claimRight
-  agree-passes =
+  agree-right =
       sym (ap₂ (λ (x y : Bool). x && y && agree m n (tableau m n 0 es) (basis m n 0 ss)) start steps)
       ∙ marking m n 0 es c ss pos shaped vec (long-vectors m n ss vs)
 
-  pub apart-passes : eqb (apart m n (tableau m n 0 es) (basis m n 0 ss)) 0 ≡ passes m n es (from c ss)
-  apart-passes = sym (apart-agree m n (tableau m n 0 es) (basis m n 0 ss)) ∙ agree-passes
+  pub apart-right : eqb (apart m n (tableau m n 0 es) (basis m n 0 ss)) 0 ≡ isRight m n es (from c ss)
+  apart-right = sym (apart-agree m n (tableau m n 0 es) (basis m n 0 ss)) ∙ agree-right
 
-  module _ (wrong : passes m n es (from c ss) ≡ false) where
+  module _ (wrong : isRight m n es (from c ss) ≡ false) where
     pub apart-above : (apart m n (tableau m n 0 es) (basis m n 0 ss) ≤ n)
         × (1 < pivot (n - apart m n (tableau m n 0 es) (basis m n 0 ss)) (tableau m n 0 es))
     apart-above =
         above-apart m n es c ss pos shaped vec (long-vectors m n ss vs) (of-true start) (all-of-every m es ss (of-true steps))
-        (agree-passes ∙ wrong)
+        (agree-right ∙ wrong)
 
     pub missed-law : Solution m n es (missedOf m n es (from c ss)) × (T (describes m (from c ss) (missedOf m n es (from c ss))) → ⊥)
     missed-law =
         missed-apart m n es c ss pos shaped vec (long-vectors m n ss vs) (of-true start) (all-of-every m es ss (of-true steps))
-        (agree-passes ∙ wrong)
+        (agree-right ∙ wrong)

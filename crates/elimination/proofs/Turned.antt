@@ -93,12 +93,12 @@ colex-reverse (x ∷ v) (y ∷ w) S R h c = go (colex-reverse v w (x ∷ S) (y �
     go (inl (inr p)) = inr (p .0, inl (p .1))
     go (inr p) = let e = p .0 in let a : x ≡ y = cc in let b : S ≡ R = cc in inr (b, inr (a, p .1))
 
-module _ (m n : ℕ) (p : List ℕ → Bool) (v : List ℕ) (c : ℕ) (vec : Vector m n v) (passes : T (p v))
+module _ (m n : ℕ) (p : List ℕ → Bool) (v : List ℕ) (c : ℕ) (vec : Vector m n v) (isRight : T (p v))
     (least : (w : List ℕ) → Vector m n w → T (p w)
     → (reverseAux v (c ∷ []) ≡ reverseAux w (c ∷ [])) ⊎ Colex (reverseAux v (c ∷ [])) (reverseAux w (c ∷ []))) where
   pub first-colex : first p (vectors m n) ≡ some v
   first-colex =
-      first-is m n p v vec (true-of _ passes)
+      first-is m n p v vec (true-of _ isRight)
       (λ w wv lt. false-of _ (λ t. go w (vector-length m n v vec ∙ sym (vector-length m n w wv)) lt (least w wv t)))
     where
       not-both : (w : List ℕ) → Before w v

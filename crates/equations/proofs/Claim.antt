@@ -1,9 +1,9 @@
--- What a claim describes and when it passes, said by exists and for-all.
+-- What a claim describes and when it is right, said by exists and for-all.
 --   describes-nothing   "0 claims no solution and describes no vector"
 --   describes-exists    a vector is described: it is the start plus a combination of the steps, for some coefficients
---   among-all           a claim passes for a set: of each vector of n residues, it is described if and only if it is a member
---   among-described     a claim that describes only vectors of n residues passes: those are the members
---   passes-all                     the same for the set of solutions
+--   among-all           a claim is right for a set: of each vector of n residues, it is described if and only if it is a member
+--   among-described     a claim that describes only vectors of n residues is right: those are the members
+--   right-all           the same for the set of solutions
 use mathlib.Core.Path.{_≡_}
 use mathlib.Core.Logic.{_↔_}
 use mathlib.Core.List.{List}
@@ -13,8 +13,8 @@ use lib.ListN.{length}
 use lib.Dec.{T}
 use Rattle.equations.specs.Vectors.{Vector, sameVector, combination}
 use Rattle.equations.specs.Equation.{Equation, solves}
-use Rattle.equations.specs.Claim.{Claim, noSolution, from, describes, passes}
-use Rattle.equations.specs.Sets.{passesAmong}
+use Rattle.equations.specs.Claim.{Claim, noSolution, from, describes, isRight}
+use Rattle.equations.specs.Sets.{isRightAmong}
 use Rattle.equations.proofs.Lists.{every-vector, every-of, someone-vector, someone-of, eq-of-same, same-of-eq}
 
 pub describes-nothing : (m : ℕ) (v : List ℕ) → T (describes m noSolution v) → ⊥
@@ -42,7 +42,7 @@ same-outcome false true = ((λ t. absurd t), λ h. h .1 tt)
 same-outcome false false = ((λ t. ((λ u. u), λ u. u)), λ h. tt)
 
 pub among-all : (m n : ℕ) (p : List ℕ → Bool) (claim : Claim)
-    → T (passesAmong m n p claim) ↔ ((v : List ℕ) → Vector m n v → T (describes m claim v) ↔ T (p v))
+    → T (isRightAmong m n p claim) ↔ ((v : List ℕ) → Vector m n v → T (describes m claim v) ↔ T (p v))
 among-all m n p claim = (
   (λ t v vec. same-outcome (describes m claim v) (p v) .0
       (every-vector m n (λ v. Bool·beq (describes m claim v) (p v)) t v vec)),
@@ -52,7 +52,7 @@ among-all m n p claim = (
 
 pub among-described : (m n : ℕ) (p : List ℕ → Bool) (claim : Claim)
     → ((v : List ℕ) → T (describes m claim v) → Vector m n v)
-    → T (passesAmong m n p claim) ↔ ((v : List ℕ) → T (describes m claim v) ↔ (Vector m n v × T (p v)))
+    → T (isRightAmong m n p claim) ↔ ((v : List ℕ) → T (describes m claim v) ↔ (Vector m n v × T (p v)))
 among-described m n p claim vector = (
   (λ t v.
       let same = among-all m n p claim .0 t v in
@@ -60,7 +60,7 @@ among-described m n p claim vector = (
   λ f. among-all m n p claim .1 (λ v vec. ((λ d. f v .0 d .1), λ s. f v .1 (vec, s))),
 )
 
-pub passes-all : (m n : ℕ) (es : List Equation) (claim : Claim)
-    → T (passes m n es claim) ↔ ((v : List ℕ) → Vector m n v → T (describes m claim v) ↔ T (solves m es v))
-unfolding passes
-passes-all m n es claim = among-all m n (solves m es) claim
+pub right-all : (m n : ℕ) (es : List Equation) (claim : Claim)
+    → T (isRight m n es claim) ↔ ((v : List ℕ) → Vector m n v → T (describes m claim v) ↔ T (solves m es v))
+unfolding isRight
+right-all m n es claim = among-all m n (solves m es) claim

@@ -78,10 +78,10 @@ some-headed m n p x (suc k) y v l h before at =
 
 pub first-is : (m n : ℕ) (p : List ℕ → Bool) (v : List ℕ) → Vector m n v → p v ≡ true
     → ((w : List ℕ) → Vector m n w → Before w v → p w ≡ false) → first p (vectors m n) ≡ some v
-first-is m zero p [] vec passes before = ap (λ (b : Bool). cond b (some []) none) passes
-first-is m zero p (x ∷ v) vec passes before = absurd vec
-first-is m (suc n) p [] vec passes before = absurd vec
-first-is m (suc n) p (x ∷ v) vec passes before =
+first-is m zero p [] vec isRight before = ap (λ (b : Bool). cond b (some []) none) isRight
+first-is m zero p (x ∷ v) vec isRight before = absurd vec
+first-is m (suc n) p [] vec isRight before = absurd vec
+first-is m (suc n) p (x ∷ v) vec isRight before =
     some-headed m n p 0 m x v zero-le (omega arith)
     (λ y lt. first-none m n (λ v. p (y ∷ v)) (λ w wv. before (y ∷ w) (omega arith, wv) (inl lt)))
-    (first-is m n (λ v. p (x ∷ v)) v (vec .1) passes (λ w wv lt. before (x ∷ w) (vec .0, wv) (inr (refl, lt))))
+    (first-is m n (λ v. p (x ∷ v)) v (vec .1) isRight (λ w wv lt. before (x ∷ w) (vec .0, wv) (inr (refl, lt))))

@@ -2,6 +2,7 @@
 pub mod Truth
 pub mod Dot
 pub mod Unit
+pub mod Without
 pub mod Vectors
 pub mod Lines
 pub mod Whole
@@ -18,7 +19,7 @@ pub mod Steps
 pub mod Ranges
 pub mod Writing
 pub mod Answer
-pub mod Passing
+pub mod OwnAnswer
 pub mod Fails
 pub mod Reasons
 pub mod Sums

@@ -1,9 +1,9 @@
 -- The answer to lines, each mod its own q, is the answer to the equations that they are once scaled, mod m; and lines
 -- whose moduli are all m are the equations that they hold.
---   line-start, line-step-at, line-steps, line-passes     start, a step, steps and marking of the scaled lines
---   line-passes-described                                 a claim that describes only vectors of n residues passes: those are where the lines hold
+--   line-start, line-step-at, line-steps, line-right     start, a step, steps and marking of the scaled lines
+--   line-right-described                                 a claim that describes only vectors of n residues is right: those are where the lines hold
 --   plain-moduli, plain-holds, plain-scaled               lines that are all mod m
---   plain-start, plain-step, plain-steps, plain-passes, plain-refutes   their answer
+--   plain-start, plain-step, plain-steps, plain-right, plain-refutes   their answer
 use mathlib.Core.Path.{_≡_, refl, ap, ap₂, _∙_, sym}
 use mathlib.Core.Logic.{_↔_}
 use mathlib.Core.List.{List, [], _∷_, map}
@@ -17,10 +17,10 @@ use Rattle.equations.specs.Vectors.{Vector}
 use Rattle.equations.specs.Equation.{Equation, solvesOne, solves, homogeneous}
 use Rattle.equations.specs.Answer.{startOf, stepAt, stepsOf}
 use Rattle.equations.specs.Multipliers.{refutes}
-use Rattle.equations.specs.Claim.{Claim, describes, passes}
-use Rattle.equations.specs.Line.{Line, Moduli, holds, level, lineStart, lineStepAt, lineSteps, linePasses, scaled, lineRefutes, linesMod}
+use Rattle.equations.specs.Claim.{Claim, describes, isRight}
+use Rattle.equations.specs.Line.{Line, Moduli, holds, level, lineStart, lineStepAt, lineSteps, lineIsRight, scaled, lineRefutes, linesMod}
 use Rattle.equations.proofs.Claim.{among-described}
-use Rattle.equations.proofs.Sets.{start-among, step-at-among, steps-among, passes-among, start-same, step-same, steps-same, passes-same}
+use Rattle.equations.proofs.Sets.{start-among, step-at-among, steps-among, right-among, start-same, step-same, steps-same, right-same}
 use Rattle.equations.proofs.Scaled.{holds-scaled, holds-level-scaled}
 
 -- ---- lines as equations
@@ -46,19 +46,19 @@ module _ (m n : ℕ) (pos : 0 < m) (ls : List Line) (moduli : Moduli m ls) where
       (λ v vec. holds-level-scaled m pos ls moduli v)
       ∙ sym (steps-among m n (scaled m ls))
 
-  pub line-passes : (claim : Claim) → linePasses m n ls claim ≡ passes m n (scaled m ls) claim
-  unfolding linePasses
-  line-passes claim =
-      passes-same m n (holds ls) (solves m (scaled m ls)) (λ v vec. holds-scaled m pos ls moduli v) claim
-      ∙ sym (passes-among m n (scaled m ls) claim)
+  pub line-right : (claim : Claim) → lineIsRight m n ls claim ≡ isRight m n (scaled m ls) claim
+  unfolding lineIsRight
+  line-right claim =
+      right-same m n (holds ls) (solves m (scaled m ls)) (λ v vec. holds-scaled m pos ls moduli v) claim
+      ∙ sym (right-among m n (scaled m ls) claim)
 
 -- ---- claims
 
-pub line-passes-described : (m n : ℕ) (ls : List Line) (claim : Claim)
+pub line-right-described : (m n : ℕ) (ls : List Line) (claim : Claim)
     → ((v : List ℕ) → T (describes m claim v) → Vector m n v)
-    → T (linePasses m n ls claim) ↔ ((v : List ℕ) → T (describes m claim v) ↔ (Vector m n v × T (holds ls v)))
-unfolding linePasses
-line-passes-described m n ls claim vector = among-described m n (holds ls) claim vector
+    → T (lineIsRight m n ls claim) ↔ ((v : List ℕ) → T (describes m claim v) ↔ (Vector m n v × T (holds ls v)))
+unfolding lineIsRight
+line-right-described m n ls claim vector = among-described m n (holds ls) claim vector
 
 -- ---- lines that are all mod m
 
@@ -97,10 +97,10 @@ module _ (m n : ℕ) (pos : 0 < m) (es : List Equation) where
   pub plain-steps : lineSteps m n (linesMod m es) ≡ stepsOf m n es
   plain-steps = line-steps m n pos (linesMod m es) (plain-moduli m es) ∙ ap (stepsOf m n) (plain-scaled m pos es)
 
-  pub plain-passes : (claim : Claim) → linePasses m n (linesMod m es) claim ≡ passes m n es claim
-  plain-passes claim =
-      line-passes m n pos (linesMod m es) (plain-moduli m es) claim
-      ∙ ap (λ (es : List Equation). passes m n es claim) (plain-scaled m pos es)
+  pub plain-right : (claim : Claim) → lineIsRight m n (linesMod m es) claim ≡ isRight m n es claim
+  plain-right claim =
+      line-right m n pos (linesMod m es) (plain-moduli m es) claim
+      ∙ ap (λ (es : List Equation). isRight m n es claim) (plain-scaled m pos es)
 
   pub plain-refutes : (ks : List ℕ) → lineRefutes m n (linesMod m es) ks ≡ refutes m n es ks
   unfolding lineRefutes

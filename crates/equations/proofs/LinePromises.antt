@@ -11,13 +11,13 @@ use Rattle.equations.specs.Lists.{count}
 use Rattle.equations.specs.Vectors.{Vector, vectors, combination}
 use Rattle.equations.specs.Equation.{solves}
 use Rattle.equations.specs.Answer.{startOf, rangeProduct}
-use Rattle.equations.specs.Claim.{noSolution, from, passes}
+use Rattle.equations.specs.Claim.{noSolution, from, isRight}
 use Rattle.equations.specs.Promises.{Within, Written}
 use Rattle.equations.specs.Line.{Line, Moduli, holds, lineStart, lineStepAt, lineSteps, scaled, lineRefutes}
 use Rattle.equations.specs.LinePromises.{isLineStep, LineStartFirst, LineNoStart, LineStepFirst, LineNoStep, LineComplete, LineUnique, LineStepDivides, LineCounted, LineOwnAnswer, LineRefuted, ScaledAlike, PlainAlike}
 use Rattle.equations.proofs.Search.{first-of, first-some, found-none}
 use Rattle.equations.proofs.Scaled.{holds-scaled}
-use Rattle.equations.proofs.LineAnswer.{line-start, line-step-at, line-steps, line-passes, plain-holds, plain-start, plain-step, plain-steps, plain-passes, plain-refutes}
+use Rattle.equations.proofs.LineAnswer.{line-start, line-step-at, line-steps, line-right, plain-holds, plain-start, plain-step, plain-steps, plain-right, plain-refutes}
 use Rattle.equations.proofs.LineReasons.{same-solutions, plain-reason}
 use Rattle.equations.proofs.Promises.{complete, unique, step-divides, counted, own-answer, refuted}
 
@@ -68,9 +68,9 @@ line-counted m n ls c pos moduli h =
 pub line-own-answer : LineOwnAnswer
 line-own-answer m n ls pos moduli =
     let own = own-answer m n (scaled m ls) pos in
-    let back = line-passes m n pos ls moduli in (
+    let back = line-right m n pos ls moduli in (
       (λ c h. subst T (sym (back (from c (lineSteps m n ls))))
-          (subst (λ (ss : List (List ℕ)). T (passes m n (scaled m ls) (from c ss))) (sym (line-steps m n pos ls moduli))
+          (subst (λ (ss : List (List ℕ)). T (isRight m n (scaled m ls) (from c ss))) (sym (line-steps m n pos ls moduli))
           (own .0 c (start m n ls pos moduli c h)))),
       λ h. subst T (sym (back noSolution)) (own .1 (sym (line-start m n pos ls moduli) ∙ h)),
     )
@@ -89,6 +89,6 @@ plain-alike m n es pos = (
   plain-step m n pos es,
   plain-steps m n pos es,
   plain-refutes m n pos es,
-  plain-passes m n pos es,
+  plain-right m n pos es,
   plain-reason m n pos es,
 )

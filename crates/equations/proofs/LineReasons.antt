@@ -11,7 +11,7 @@ use mathlib.Core.List.{List, [], _∷_}
 use mathlib.Core.Bool.{Bool, true, false, cond, _&&_}
 use Prim.Native.Nat.{ℕ, suc, _<_}
 use lib.Dec.{T}
-use Rattle.equations.specs.declared.Reason.the-variants.{Right, Solvable}
+use Rattle.equations.specs.declared.Reason.the-variants.{Passes, Solvable}
 use Rattle.equations.specs.Lists.{every, someone, failsFrom, failsAt}
 use Rattle.equations.specs.Vectors.{vectors}
 use Rattle.equations.specs.Equation.{Equation, solvesOne, solves, homogeneous}
@@ -23,7 +23,7 @@ use Rattle.equations.proofs.Truth.{of-true, of-false}
 use Rattle.equations.proofs.Lists.{someone-vector, someone-of}
 use Rattle.equations.proofs.Fails.{fails-first, first-gives}
 use Rattle.equations.proofs.Scaled.{one-scaled, holds-scaled, scaled-level, moduli-level, holds-level-scaled}
-use Rattle.equations.proofs.LineAnswer.{line-passes, plain-moduli, plain-scaled}
+use Rattle.equations.proofs.LineAnswer.{line-right, plain-moduli, plain-scaled}
 
 -- ---- a solution, or none
 
@@ -97,7 +97,7 @@ module _ (m : ℕ) (pos : 0 < m) (ls : List Line) (moduli : Moduli m ls) where
 
   pub line-reason : (n : ℕ) (claim : Claim) → lineReason m n ls claim ≡ reasonOf m n (scaled m ls) claim
   unfolding lineReason reasonOf
-  line-reason n noSolution = ap (λ (b : Bool). cond b Solvable Right) (solvable-scaled n)
+  line-reason n noSolution = ap (λ (b : Bool). cond b Solvable Passes) (solvable-scaled n)
   line-reason n (from c ss) =
       rw (
         solvable-scaled n,
@@ -106,7 +106,7 @@ module _ (m : ℕ) (pos : 0 < m) (ls : List Line) (moduli : Moduli m ls) where
         ap (λ (p : List ℕ → Bool). every p ss) (same-kept m pos ls moduli),
         ap (λ (p : List ℕ → Bool). failsAt p ss) (same-kept m pos ls moduli),
         changed-scaled ss,
-        line-passes m n pos ls moduli (from c ss),
+        line-right m n pos ls moduli (from c ss),
       )
 
 -- ---- lines that are all mod m

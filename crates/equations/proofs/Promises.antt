@@ -6,11 +6,11 @@ use Rattle.equations.specs.Promises.{constant, DictionaryOrder, StartFir
 use Rattle.equations.proofs.Vectors.{before-asym, before-trans, before-total}
 use Rattle.equations.proofs.Whole as Whole
 use Rattle.equations.proofs.Answer.{first-solution, start-none, first-step, step-none, answer-complete, answer-unique}
-use Rattle.equations.proofs.Passing.{answer-passes, none-passes}
+use Rattle.equations.proofs.OwnAnswer.{answer-right, none-right}
 use Rattle.equations.proofs.Number.{count-solutions}
 use Rattle.equations.proofs.Places.{step-entry}
 use Rattle.equations.proofs.Multipliers.{refuted-none}
-use Rattle.equations.proofs.Special.{solves-start, solves-steps, solves-passes, none-start, none-steps, zero-solves, zero-homogeneous, contradiction-none}
+use Rattle.equations.proofs.Special.{solves-start, solves-steps, solves-right, none-start, none-steps, zero-solves, zero-homogeneous, contradiction-none}
 
 pub dictionary-order : DictionaryOrder
 dictionary-order m n = record { total = before-total m n; strict = before-asym; onward = before-trans }
@@ -40,7 +40,7 @@ pub counted : Counted
 counted = count-solutions
 
 pub own-answer : OwnAnswer
-own-answer m n es pos = ((λ c. answer-passes m n es c pos), none-passes m n es)
+own-answer m n es pos = ((λ c. answer-right m n es c pos), none-right m n es)
 
 pub refuted : Refuted
 refuted = refuted-none
@@ -56,7 +56,7 @@ zero-equation m n k es fs =
       zero-solves m k es fs,
       solves-start m n with-it without same,
       solves-steps m n with-it without (zero-homogeneous m k es fs),
-      solves-passes m n with-it without same,
+      solves-right m n with-it without same,
     )
 
 pub contradictory-equation : ContradictoryEquation

@@ -1,7 +1,7 @@
 -- The answer of a set of vectors. The answer to a list of equations is that of its solutions, and sets with the same
 -- members have the same answer.
---   start-among, step-at-among, steps-among, passes-among   the answer to equations is that of the set of solutions
---   start-same, step-same, steps-same, passes-same          tests that agree on all vectors of n residues
+--   start-among, step-at-among, steps-among, right-among   the answer to equations is that of the set of solutions
+--   start-same, step-same, steps-same, right-same          tests that agree on all vectors of n residues
 use mathlib.Core.Path.{_≡_, refl, ap, ap₂, sym, subst}
 use mathlib.Core.List.{List}
 use mathlib.Core.Bool.{Bool, _&&_, Bool·beq}
@@ -10,8 +10,8 @@ use lib.Dec.{T}
 use Rattle.equations.specs.Vectors.{Vector}
 use Rattle.equations.specs.Equation.{Equation, solves, homogeneous}
 use Rattle.equations.specs.Answer.{startOf, leadsAt, stepAt, andThen, stepsFrom, stepsOf}
-use Rattle.equations.specs.Claim.{Claim, describes, passes}
-use Rattle.equations.specs.Sets.{startAmong, stepAmong, stepsAmongFrom, stepsAmong, passesAmong}
+use Rattle.equations.specs.Claim.{Claim, describes, isRight}
+use Rattle.equations.specs.Sets.{startAmong, stepAmong, stepsAmongFrom, stepsAmong, isRightAmong}
 use Rattle.equations.proofs.Truth.{same-of-both}
 use Rattle.equations.proofs.Search.{first-cong}
 use Rattle.equations.proofs.Lists.{every-vector, every-of}
@@ -35,9 +35,9 @@ module _ (m n : ℕ) (es : List Equation) where
   unfolding stepsOf
   steps-among = from-among 0 n
 
-  pub passes-among : (claim : Claim) → passes m n es claim ≡ passesAmong m n (solves m es) claim
-  unfolding passes
-  passes-among claim = refl
+  pub right-among : (claim : Claim) → isRight m n es claim ≡ isRightAmong m n (solves m es) claim
+  unfolding isRight
+  right-among claim = refl
 
 -- ---- sets with the same members
 
@@ -57,9 +57,9 @@ module _ (m n : ℕ) (p q : List ℕ → Bool) (same : (v : List ℕ) → Vector
   pub steps-same : stepsAmong m n p ≡ stepsAmong m n q
   steps-same = from-same 0 n
 
-  pub passes-same : (claim : Claim) → passesAmong m n p claim ≡ passesAmong m n q claim
-  passes-same claim =
-      same-of-both (passesAmong m n p claim) (passesAmong m n q claim)
+  pub right-same : (claim : Claim) → isRightAmong m n p claim ≡ isRightAmong m n q claim
+  right-same claim =
+      same-of-both (isRightAmong m n p claim) (isRightAmong m n q claim)
       (λ t. every-of m n (test q) (λ v vec. subst (λ (b : Bool). T (Bool·beq (describes m claim v) b)) (same v vec)
       (every-vector m n (test p) t v vec)))
       (λ t. every-of m n (test p) (λ v vec. subst (λ (b : Bool). T (Bool·beq (describes m claim v) b))

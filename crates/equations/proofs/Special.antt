@@ -1,5 +1,5 @@
 -- The lists of equations that document 01 names: none at all, and those with an equation whose coefficients are all 0.
---   solves-start, solves-steps, solves-passes   start, steps and marking depend on the solutions alone
+--   solves-start, solves-steps, solves-right   start, steps and marking depend on the solutions alone
 --   none-start, none-steps                      no equations: zeros and the unit vectors
 --   zero-solves, zero-homogeneous               0x = 0 changes no solution
 --   contradiction-none                          0x = b, b not 0: no solution
@@ -16,7 +16,7 @@ use Rattle.equations.specs.Lists.{first, every}
 use Rattle.equations.specs.Vectors.{Vector, Before, vectors}
 use Rattle.equations.specs.Equation.{Equation, solvesOne, solves, homogeneous}
 use Rattle.equations.specs.Answer.{startOf, leadsAt, stepAt, andThen, stepsFrom, stepsOf}
-use Rattle.equations.specs.Claim.{Claim, describes, passes}
+use Rattle.equations.specs.Claim.{Claim, describes, isRight}
 use Rattle.equations.specs.Promises.{units, constant}
 use Rattle.equations.proofs.Truth.{true-of}
 use Rattle.equations.proofs.Dot.{dot-zeros}
@@ -35,9 +35,9 @@ module _ (m n : ℕ) (es fs : List Equation) where
   unfolding startOf
   solves-start h = ap (λ (p : List ℕ → Bool). first p (vectors m n)) h
 
-  pub solves-passes : solves m es ≡ solves m fs → (claim : Claim) → passes m n es claim ≡ passes m n fs claim
-  unfolding passes
-  solves-passes h claim =
+  pub solves-right : solves m es ≡ solves m fs → (claim : Claim) → isRight m n es claim ≡ isRight m n fs claim
+  unfolding isRight
+  solves-right h claim =
       ap (λ (p : List ℕ → Bool). every (λ v. Bool·beq (describes m claim v) (p v)) (vectors m n)) h
 
   steps-from : solves m (homogeneous es) ≡ solves m (homogeneous fs) → (j k : ℕ)

@@ -22,8 +22,8 @@ describes m (from start steps) v =
     someone (λ ts. sameVector (combination m start steps ts) v) (vectors m (length steps))
 
 -- "Pass if the described vectors are those that solve the ledger's equations, fail otherwise."
-unfoldable pub passes : ℕ → ℕ → List Equation → Claim → Bool
-passes m n es claim = every (λ v. Bool·beq (describes m claim v) (solves m es v)) (vectors m n)
+unfoldable pub isRight : ℕ → ℕ → List Equation → Claim → Bool
+isRight m n es claim = every (λ v. Bool·beq (describes m claim v) (solves m es v)) (vectors m n)
 
 -- a mark's number, as a result in C and as a byte: "0 fail, 1 pass"
 abbrev pub markNumber : Mark → ℕ

@@ -10,7 +10,7 @@ use Rattle.residue.specs.Divides.{Divides}
 use Rattle.equations.specs.Equation.{Equation, solvesOne}
 use Rattle.equations.specs.Multipliers.{refutes}
 use Rattle.equations.specs.Claim.{Claim}
-use Rattle.equations.specs.Sets.{startAmong, stepAmong, stepsAmong, passesAmong}
+use Rattle.equations.specs.Sets.{startAmong, stepAmong, stepsAmong, isRightAmong}
 
 -- "An equation record gains a modulus q that divides the sheet's m"
 pub record Line : Type 0 where
@@ -59,8 +59,8 @@ lineStepAt m n ls j = stepAmong m n (holds (level ls)) j
 unfoldable pub lineSteps : ℕ → ℕ → List Line → List (List ℕ)
 lineSteps m n ls = stepsAmong m n (holds (level ls))
 
-unfoldable pub linePasses : ℕ → ℕ → List Line → Claim → Bool
-linePasses m n ls claim = passesAmong m n (holds ls) claim
+unfoldable pub lineIsRight : ℕ → ℕ → List Line → Claim → Bool
+lineIsRight m n ls claim = isRightAmong m n (holds ls) claim
 
 -- ---- as equations mod m
 

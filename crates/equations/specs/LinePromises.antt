@@ -15,10 +15,10 @@ use Rattle.equations.specs.Vectors.{Vector, First, vectors, combination}
 use Rattle.equations.specs.Equation.{Equation, solves}
 use Rattle.equations.specs.Answer.{startOf, leadsAt, stepAt, stepsOf, leading, rangeProduct}
 use Rattle.equations.specs.Multipliers.{refutes}
-use Rattle.equations.specs.Claim.{Claim, noSolution, from, passes}
+use Rattle.equations.specs.Claim.{Claim, noSolution, from, isRight}
 use Rattle.equations.specs.Reasons.{reasonOf}
 use Rattle.equations.specs.Promises.{Within, Written}
-use Rattle.equations.specs.Line.{Line, Moduli, holds, level, lineStart, lineStepAt, lineSteps, linePasses, scaled, lineRefutes, linesMod}
+use Rattle.equations.specs.Line.{Line, Moduli, holds, level, lineStart, lineStepAt, lineSteps, lineIsRight, scaled, lineRefutes, linesMod}
 use Rattle.equations.specs.LineReasons.{lineReason}
 
 -- "Starting vector: the first solution in dictionary order."
@@ -75,8 +75,8 @@ LineCounted =
 abbrev pub LineOwnAnswer : Type 0
 LineOwnAnswer =
     (m n : ℕ) (ls : List Line) → 0 < m → Moduli m ls
-    → ((c : List ℕ) → lineStart m n ls ≡ some c → T (linePasses m n ls (from c (lineSteps m n ls))))
-    × (lineStart m n ls ≡ none → T (linePasses m n ls noSolution))
+    → ((c : List ℕ) → lineStart m n ls ≡ some c → T (lineIsRight m n ls (from c (lineSteps m n ls))))
+    × (lineStart m n ls ≡ none → T (lineIsRight m n ls noSolution))
 
 -- multipliers that refute the lines, "with both sides times m/q, still mod m", leave no solution
 abbrev pub LineRefuted : Type 0
@@ -98,5 +98,5 @@ PlainAlike =
     × ((j : ℕ) → lineStepAt m n (linesMod m es) j ≡ stepAt m n es j)
     × (lineSteps m n (linesMod m es) ≡ stepsOf m n es)
     × ((ks : List ℕ) → lineRefutes m n (linesMod m es) ks ≡ refutes m n es ks)
-    × ((claim : Claim) → linePasses m n (linesMod m es) claim ≡ passes m n es claim)
+    × ((claim : Claim) → lineIsRight m n (linesMod m es) claim ≡ isRight m n es claim)
     × ((claim : Claim) → lineReason m n (linesMod m es) claim ≡ reasonOf m n es claim)

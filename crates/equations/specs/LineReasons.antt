@@ -6,12 +6,12 @@ use mathlib.Core.Bool.{Bool, cond, not}
 use Prim.Native.Nat.{ℕ}
 use lib.Dec.{T}
 use Rattle.equations.specs.declared.Reason.{Reason}
-use Rattle.equations.specs.declared.Reason.the-variants.{Right, Solvable, Unsolvable, Breaks, Changes, Misses}
+use Rattle.equations.specs.declared.Reason.the-variants.{Passes, Solvable, Unsolvable, Breaks, Changes, Misses}
 use Rattle.equations.specs.Lists.{every, someone, failsAt}
 use Rattle.equations.specs.Vectors.{Vector, vectors}
 use Rattle.equations.specs.Claim.{Claim, noSolution, from, describes}
 use Rattle.equations.specs.Reasons.{FirstFails, Starting}
-use Rattle.equations.specs.Line.{Line, holdsOne, holds, level, linePasses, lineRefutes}
+use Rattle.equations.specs.Line.{Line, holdsOne, holds, level, lineIsRight, lineRefutes}
 
 -- some vector of residues is where they all hold
 unfoldable pub lineSolvable : ℕ → ℕ → List Line → Bool
@@ -34,12 +34,12 @@ lineChanged ls (s ∷ ss) = cond (lineKeeps ls s) (lineChanged ls ss) (brokenLin
 -- breaks an equation, the first such; a step changes an equation's left side, giving the first step, and for it the first such
 -- equation; a solution that the claim does not describe. A passed claim gives no reason".
 unfoldable pub lineReason : ℕ → ℕ → List Line → Claim → Reason
-lineReason m n ls noSolution = cond (lineSolvable m n ls) Solvable Right
+lineReason m n ls noSolution = cond (lineSolvable m n ls) Solvable Passes
 lineReason m n ls (from start steps) =
     cond (not (lineSolvable m n ls)) Unsolvable
     (cond (not (holds ls start)) (Breaks (brokenLine ls start))
     (cond (not (every (lineKeeps ls) steps)) (Changes (failsAt (lineKeeps ls) steps) (lineChanged ls steps))
-    (cond (linePasses m n ls (from start steps)) Right Misses)))
+    (cond (lineIsRight m n ls (from start steps)) Passes Misses)))
 
 -- ---- what a reason says
 
@@ -49,7 +49,7 @@ LineSolution m n ls v = Vector m n v × T (holds ls v)
 -- "true as stated": what a reason says of a claim, with the numbers that are shown beside it. Each case begins with what holds since
 -- no earlier reason does.
 abbrev pub LineSays : ℕ → ℕ → List Line → Claim → Reason → List ℕ → Type 0
-LineSays m n ls claim Right shown = T (linePasses m n ls claim) × (shown ≡ [])
+LineSays m n ls claim Passes shown = T (lineIsRight m n ls claim) × (shown ≡ [])
 LineSays m n ls claim Solvable shown = (claim ≡ noSolution) × LineSolution m n ls shown
 LineSays m n ls claim Unsolvable shown =
     Starting claim (λ start steps. (v : List ℕ) → LineSolution m n ls v → ⊥) × T (lineRefutes m n ls shown)

@@ -1,9 +1,10 @@
 -- Tests over a finite list: the first element that passes, whether every one does, whether some one
--- does, how many do, and the place of the first that does not. Definitions only.
-use mathlib.Core.List.{List, [], _∷_}
+-- does, how many do, and the place of the first that does not; and a list without one of its elements. Definitions only.
+use mathlib.Core.List.{List, [], _∷_, _++_}
 use mathlib.Core.Option.{Option, none, some}
 use mathlib.Core.Bool.{Bool, true, false, cond, _&&_, _||_}
 use Prim.Native.Nat.{ℕ, suc}
+use lib.ListN.{take, drop}
 
 module _ {A : Type 0} where
   abbrev pub first : (A → Bool) → List A → Option A
@@ -30,3 +31,7 @@ module _ {A : Type 0} where
   -- "steps and equations count from 1"
   abbrev pub failsAt : (A → Bool) → List A → ℕ
   failsAt p xs = failsFrom p 0 xs
+
+  -- all but what stands at place j, counted from 0; those behind it close up in order
+  abbrev pub without : ℕ → List A → List A
+  without j xs = take j xs ++ drop (suc j) xs

@@ -17,7 +17,7 @@ use Rattle.equations.specs.Lines.{equationAt}
 use Rattle.equations.specs.Whole.{HoldsWhole}
 use Rattle.equations.specs.Answer.{startOf, isStep, stepAt, stepsOf, leading, rangeOf, rangeProduct}
 use Rattle.equations.specs.Multipliers.{refutes}
-use Rattle.equations.specs.Claim.{Claim, noSolution, from, passes}
+use Rattle.equations.specs.Claim.{Claim, noSolution, from, isRight}
 
 -- "Vectors of n residues stand in dictionary order": of two different ones just one comes before the other, and what comes
 -- before v comes before whatever v is before. So at most one vector is the first that passes a test.
@@ -93,8 +93,8 @@ Counted =
 abbrev pub OwnAnswer : Type 0
 OwnAnswer =
     (m n : ℕ) (es : List Equation) → 0 < m
-    → ((c : List ℕ) → startOf m n es ≡ some c → T (passes m n es (from c (stepsOf m n es))))
-    × (startOf m n es ≡ none → T (passes m n es noSolution))
+    → ((c : List ℕ) → startOf m n es ≡ some c → T (isRight m n es (from c (stepsOf m n es))))
+    × (startOf m n es ≡ none → T (isRight m n es noSolution))
 
 -- multipliers that refute the equations leave no solution
 abbrev pub Refuted : Type 0
@@ -121,7 +121,7 @@ ZeroEquation =
     → ((v : List ℕ) → solves m (es ++ (constant k 0 ∷ fs)) v ≡ solves m (es ++ fs) v)
     × (startOf m n (es ++ (constant k 0 ∷ fs)) ≡ startOf m n (es ++ fs))
     × (stepsOf m n (es ++ (constant k 0 ∷ fs)) ≡ stepsOf m n (es ++ fs))
-    × ((claim : Claim) → passes m n (es ++ (constant k 0 ∷ fs)) claim ≡ passes m n (es ++ fs) claim)
+    × ((claim : Claim) → isRight m n (es ++ (constant k 0 ∷ fs)) claim ≡ isRight m n (es ++ fs) claim)
 
 -- "0x=1: none", wherever it stands in the list; so with every right side that is not 0
 abbrev pub ContradictoryEquation : Type 0

@@ -6,12 +6,12 @@ use Prim.Native.Nat.{ℕ, suc}
 use lib.ListN.{length}
 use lib.Dec.{T}
 use Rattle.equations.specs.declared.Reason.{Reason}
-use Rattle.equations.specs.declared.Reason.the-variants.{Right, Solvable, Unsolvable, Breaks, Changes, Misses}
+use Rattle.equations.specs.declared.Reason.the-variants.{Passes, Solvable, Unsolvable, Breaks, Changes, Misses}
 use Rattle.equations.specs.Lists.{every, someone, failsAt}
 use Rattle.equations.specs.Vectors.{Vector, AllVectors, vectors}
 use Rattle.equations.specs.Equation.{Equation, solvesOne, solves, homogeneous}
 use Rattle.equations.specs.Multipliers.{refutes}
-use Rattle.equations.specs.Claim.{Claim, noSolution, from, describes, passes}
+use Rattle.equations.specs.Claim.{Claim, noSolution, from, describes, isRight}
 
 -- some vector of residues solves them all
 unfoldable pub hasSolution : ℕ → ℕ → List Equation → Bool
@@ -38,16 +38,16 @@ changedLine m es (s ∷ ss) = cond (keeps m es s) (changedLine m es ss) (brokenA
 -- breaks an equation, the first such; a step changes an equation's left side, giving the first step, and for it the first such
 -- equation; a solution that the claim does not describe. A passed claim gives no reason".
 unfoldable pub reasonOf : ℕ → ℕ → List Equation → Claim → Reason
-reasonOf m n es noSolution = cond (hasSolution m n es) Solvable Right
+reasonOf m n es noSolution = cond (hasSolution m n es) Solvable Passes
 reasonOf m n es (from start steps) =
     cond (not (hasSolution m n es)) Unsolvable
     (cond (not (solves m es start)) (Breaks (brokenAt m es start))
     (cond (not (every (keeps m es) steps)) (Changes (changedStep m es steps) (changedLine m es steps))
-    (cond (passes m n es (from start steps)) Right Misses)))
+    (cond (isRight m n es (from start steps)) Passes Misses)))
 
 -- the number of a reason in the paper's order, 0 where there is none
 abbrev pub reasonNumber : Reason → ℕ
-reasonNumber Right = 0
+reasonNumber Passes = 0
 reasonNumber Solvable = 1
 reasonNumber Unsolvable = 2
 reasonNumber (Breaks equation) = 3
@@ -56,7 +56,7 @@ reasonNumber Misses = 5
 
 -- the step and the equation that it names, 0 where it names none: "steps and equations count from 1"
 abbrev pub placesIn : Reason → List ℕ
-placesIn Right = 0 ∷ 0 ∷ []
+placesIn Passes = 0 ∷ 0 ∷ []
 placesIn Solvable = 0 ∷ 0 ∷ []
 placesIn Unsolvable = 0 ∷ 0 ∷ []
 placesIn (Breaks equation) = 0 ∷ equation ∷ []
@@ -86,7 +86,7 @@ Starting (from start steps) P = P start steps
 -- "true as stated": what a reason says of a claim, with the numbers that are shown beside it. Each case begins with what holds since
 -- no earlier reason does.
 abbrev pub Says : ℕ → ℕ → List Equation → Claim → Reason → List ℕ → Type 0
-Says m n es claim Right shown = T (passes m n es claim) × (shown ≡ [])
+Says m n es claim Passes shown = T (isRight m n es claim) × (shown ≡ [])
 Says m n es claim Solvable shown = (claim ≡ noSolution) × Solution m n es shown
 Says m n es claim Unsolvable shown =
     Starting claim (λ start steps. (v : List ℕ) → Solution m n es v → ⊥) × T (refutes m n es shown)

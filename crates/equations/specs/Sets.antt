@@ -27,5 +27,5 @@ abbrev pub stepsAmong : ℕ → ℕ → (List ℕ → Bool) → List (List ℕ)
 stepsAmong m n p = stepsAmongFrom m n p 0 n
 
 -- the vectors of n residues that the claim describes are those that pass p
-abbrev pub passesAmong : ℕ → ℕ → (List ℕ → Bool) → Claim → Bool
-passesAmong m n p claim = every (λ v. Bool·beq (describes m claim v) (p v)) (vectors m n)
+abbrev pub isRightAmong : ℕ → ℕ → (List ℕ → Bool) → Claim → Bool
+isRightAmong m n p claim = every (λ v. Bool·beq (describes m claim v) (p v)) (vectors m n)

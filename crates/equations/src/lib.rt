@@ -9,7 +9,7 @@ pub enum Mark {
 
 // Why a marked claim fails: the first reason that holds. Steps and equations count from 1. A claim that passes is right.
 pub enum Reason {
-    Right,
+    Passes,
     Solvable,
     Unsolvable,
     Breaks(u32),

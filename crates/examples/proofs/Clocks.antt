@@ -11,11 +11,11 @@ use Rattle.questions.specs.Reply.{memoryAfter}
 use Rattle.residue.specs.Residue.{residueOf}
 use Rattle.residue.specs.Negative.{negative}
 use Rattle.equations.specs.declared.Mark.the-variants.{Pass, Fail}
-use Rattle.equations.specs.declared.Reason.the-variants.{Right, Breaks, Changes}
+use Rattle.equations.specs.declared.Reason.the-variants.{Passes, Breaks, Changes}
 use Rattle.equations.specs.Lines.{equationsOf}
 use Rattle.equations.specs.Multipliers.{refutes}
 use Rattle.equations.specs.Claim.{describes}
-use Rattle.equations.specs.Line.{Line, lineStart, lineSteps, linePasses, lineRefutes, linesMod}
+use Rattle.equations.specs.Line.{Line, lineStart, lineSteps, lineIsRight, lineRefutes, linesMod}
 use Rattle.equations.specs.LineReasons.{lineSolvable, lineReason}
 use Rattle.system.specs.Claims.{claimOf, vectorsOf}
 use Rattle.system.specs.Lines.{lineBlock}
@@ -105,14 +105,14 @@ three = opened 12 1 (is 3 2 ∷ [])
 pub marked :
     (claimMark three (block 2 (2 ∷ 3 ∷ [])) ≡ Pass) × (claimMark three (block 2 (11 ∷ 9 ∷ [])) ≡ Pass)
     × (claimMark three (block 2 (2 ∷ 6 ∷ [])) ≡ Fail)
-unfolding wordsIn claimOf vectorsOf linePasses describes
+unfolding wordsIn claimOf vectorsOf lineIsRight describes
 marked = (refl, refl, refl)
 
 -- 5 leaves 2 mod 3, though not mod 12; the step 3 changes the left side mod 12 alone, the step 2 mod 3 too
 pub reasons :
-    (claimReason three (block 2 (5 ∷ 3 ∷ [])) ≡ Right) × (claimReason three (block 1 (3 ∷ [])) ≡ Breaks 1)
+    (claimReason three (block 2 (5 ∷ 3 ∷ [])) ≡ Passes) × (claimReason three (block 1 (3 ∷ [])) ≡ Breaks 1)
     × (claimReason three (block 3 (2 ∷ 3 ∷ 2 ∷ [])) ≡ Changes 2 1)
-unfolding wordsIn claimOf vectorsOf lineReason lineSolvable linePasses describes
+unfolding wordsIn claimOf vectorsOf lineReason lineSolvable lineIsRight describes
 reasons = (refl, refl, refl)
 
 -- ---- what is turned away

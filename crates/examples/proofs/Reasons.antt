@@ -6,10 +6,10 @@ use mathlib.Core.Path.{_≡_, refl}
 use Prim.Native.Nat.{ℕ}
 use lib.ListN.{replicate}
 use Rattle.questions.specs.Reply.{resultOf, memoryAfter}
-use Rattle.equations.specs.declared.Reason.the-variants.{Right, Solvable, Unsolvable, Breaks, Changes, Misses}
+use Rattle.equations.specs.declared.Reason.the-variants.{Passes, Solvable, Unsolvable, Breaks, Changes, Misses}
 use Rattle.equations.specs.Answer.{startOf}
 use Rattle.equations.specs.Claim.{describes}
-use Rattle.equations.specs.Line.{linePasses, linesMod}
+use Rattle.equations.specs.Line.{lineIsRight, linesMod}
 use Rattle.equations.specs.LineReasons.{lineSolvable, lineReason}
 use Rattle.system.specs.Claims.{claimOf, vectorsOf}
 use Rattle.system.specs.Lines.{lineShown}
@@ -32,28 +32,28 @@ pub one-of-each :
     × (claimReason sheet (block 1 (1 ∷ 0 ∷ [])) ≡ Breaks 1)
     × (claimReason sheet (block 2 (0 ∷ 0 ∷ 1 ∷ 0 ∷ [])) ≡ Changes 1 1)
     × (claimReason sheet (block 2 (0 ∷ 0 ∷ 0 ∷ 2 ∷ [])) ≡ Misses)
-    × (claimReason sheet (block 2 (0 ∷ 0 ∷ 2 ∷ 3 ∷ [])) ≡ Right)
-unfolding wordsIn claimOf vectorsOf lineReason lineSolvable linePasses describes
+    × (claimReason sheet (block 2 (0 ∷ 0 ∷ 2 ∷ 3 ∷ [])) ≡ Passes)
+unfolding wordsIn claimOf vectorsOf lineReason lineSolvable lineIsRight describes
 one-of-each = (refl, refl, refl, refl, refl)
 
 -- "the first such": of three equations the second and the third are broken
 pub second-equation-broken :
     claimReason (opened 4 2 (linesMod 4 (equation (0 ∷ 2 ∷ []) 0 ∷ equation (1 ∷ 0 ∷ []) 1 ∷ equation (2 ∷ 0 ∷ []) 2 ∷ []))) (block 1 (0 ∷ 0 ∷ []))
     ≡ Breaks 2
-unfolding wordsIn claimOf vectorsOf lineReason lineSolvable linePasses describes
+unfolding wordsIn claimOf vectorsOf lineReason lineSolvable lineIsRight describes
 second-equation-broken = refl
 
 -- "giving the first step, and for it the first such equation": the second step, and of it the first equation or the second
 pub second-step :
     (claimReason (opened 4 2 (linesMod 4 (equation (1 ∷ 2 ∷ []) 0 ∷ equation (2 ∷ 0 ∷ []) 0 ∷ []))) (block 3 (0 ∷ 0 ∷ 2 ∷ 1 ∷ 1 ∷ 0 ∷ [])) ≡ Changes 2 1)
     × (claimReason (opened 4 2 (linesMod 4 (equation (2 ∷ 0 ∷ []) 0 ∷ equation (1 ∷ 2 ∷ []) 0 ∷ []))) (block 3 (0 ∷ 0 ∷ 2 ∷ 1 ∷ 2 ∷ 0 ∷ [])) ≡ Changes 2 2)
-unfolding wordsIn claimOf vectorsOf lineReason lineSolvable linePasses describes
+unfolding wordsIn claimOf vectorsOf lineReason lineSolvable lineIsRight describes
 second-step = (refl, refl)
 
 -- steps outside, equations inside: the first step changes the second equation, though the second step changes the first
 pub steps-before-equations :
     claimReason (opened 4 2 (linesMod 4 (equation (2 ∷ 0 ∷ []) 0 ∷ equation (1 ∷ 2 ∷ []) 0 ∷ []))) (block 3 (0 ∷ 0 ∷ 2 ∷ 0 ∷ 1 ∷ 0 ∷ [])) ≡ Changes 1 2
-unfolding wordsIn claimOf vectorsOf lineReason lineSolvable linePasses describes
+unfolding wordsIn claimOf vectorsOf lineReason lineSolvable lineIsRight describes
 steps-before-equations = refl
 
 -- 2·x = 1 has no solution: whatever else is claimed gets this reason, before a start is looked at, and who claims none is right
@@ -62,8 +62,8 @@ none = opened 4 2 (linesMod 4 (equation (2 ∷ 0 ∷ []) 1 ∷ []))
 
 pub no-start-looked-at :
     (claimReason none (block 2 (3 ∷ 3 ∷ 1 ∷ 0 ∷ [])) ≡ Unsolvable) × (claimReason none (block 1 (0 ∷ 0 ∷ [])) ≡ Unsolvable)
-    × (claimReason none (block 0 []) ≡ Right)
-unfolding wordsIn claimOf vectorsOf lineReason lineSolvable linePasses describes
+    × (claimReason none (block 0 []) ≡ Passes)
+unfolding wordsIn claimOf vectorsOf lineReason lineSolvable lineIsRight describes
 no-start-looked-at = (refl, refl, refl)
 
 -- ---- what is written
@@ -79,9 +79,9 @@ solution-written = (refl, refl)
 pub nothing-written :
     (reasonedOf sheet (block 1 (1 ∷ 0 ∷ [])) [] ≡ Gives (Breaks 1) 0)
     × (reasonedOf sheet (block 2 (0 ∷ 0 ∷ 1 ∷ 0 ∷ [])) [] ≡ Gives (Changes 1 1) 0)
-    × (reasonedOf sheet (block 2 (0 ∷ 0 ∷ 2 ∷ 3 ∷ [])) [] ≡ Gives Right 0)
+    × (reasonedOf sheet (block 2 (0 ∷ 0 ∷ 2 ∷ 3 ∷ [])) [] ≡ Gives Passes 0)
     × (shownAfter sheet (block 2 (0 ∷ 0 ∷ 2 ∷ 3 ∷ [])) (9 ∷ []) ≡ 9 ∷ [])
-unfolding reasonedOf shownAfter resultOf memoryAfter reasonWords lineShown wordsIn claimOf vectorsOf lineReason lineSolvable linePasses describes
+unfolding reasonedOf shownAfter resultOf memoryAfter reasonWords lineShown wordsIn claimOf vectorsOf lineReason lineSolvable lineIsRight describes
 nothing-written = (refl, refl, refl, refl)
 
 -- ---- what is turned away

@@ -24,8 +24,8 @@ use Rattle.equations.specs.Equation.{Equation}
 use Rattle.equations.specs.Answer.{startOf, stepAt, stepsOf}
 use Rattle.equations.specs.Lines.{equationsOf}
 use Rattle.equations.specs.Multipliers.{refutes}
-use Rattle.equations.specs.Claim.{from, describes, passes}
-use Rattle.equations.specs.Line.{lineStart, lineSteps, linePasses, linesMod}
+use Rattle.equations.specs.Claim.{from, describes, isRight}
+use Rattle.equations.specs.Line.{lineStart, lineSteps, lineIsRight, linesMod}
 use Rattle.equations.specs.Promises.{ZeroEquation, ContradictoryEquation}
 use Rattle.equations.proofs.Truth.{true-of}
 use Rattle.equations.proofs.Vectors.{all-below}
@@ -124,13 +124,13 @@ unfolding startOf stepsOf stepAt
 one-two-is-zero = (refl, refl)
 
 -- "Claim 0 0 with step 2 3: pass"
-pub step-two-three-passes : passes 4 2 oneTwoIsZero (from (0 ∷ 0 ∷ []) ((2 ∷ 3 ∷ []) ∷ [])) ≡ true
-unfolding passes describes
+pub step-two-three-passes : isRight 4 2 oneTwoIsZero (from (0 ∷ 0 ∷ []) ((2 ∷ 3 ∷ []) ∷ [])) ≡ true
+unfolding isRight describes
 step-two-three-passes = refl
 
 -- "with 0 2 alone: fail."
-pub step-zero-two-fails : passes 4 2 oneTwoIsZero (from (0 ∷ 0 ∷ []) ((0 ∷ 2 ∷ []) ∷ [])) ≡ false
-unfolding passes describes
+pub step-zero-two-fails : isRight 4 2 oneTwoIsZero (from (0 ∷ 0 ∷ []) ((0 ∷ 2 ∷ []) ∷ [])) ≡ false
+unfolding isRight describes
 step-zero-two-fails = refl
 
 -- so too through the calls: the answer, and both claims
@@ -144,12 +144,12 @@ unfolding sheetFrom fresh sheetAfter ledgerOf bufferAfter memoryAfter refusalOf 
 one-two-is-zero-answered x = refl
 
 pub step-two-three-marked : marked oneTwoIsZeroCalls (block 2 (0 ∷ 0 ∷ 2 ∷ 3 ∷ [])) ≡ Gets Pass
-unfolding sheetFrom fresh sheetAfter ledgerOf markedOf refusalOf wordsIn residueOf equationsOf claimOf vectorsOf linePasses
+unfolding sheetFrom fresh sheetAfter ledgerOf markedOf refusalOf wordsIn residueOf equationsOf claimOf vectorsOf lineIsRight
     describes
 step-two-three-marked = refl
 
 pub step-zero-two-marked : marked oneTwoIsZeroCalls (block 2 (0 ∷ 0 ∷ 0 ∷ 2 ∷ [])) ≡ Gets Fail
-unfolding sheetFrom fresh sheetAfter ledgerOf markedOf refusalOf wordsIn residueOf equationsOf claimOf vectorsOf linePasses
+unfolding sheetFrom fresh sheetAfter ledgerOf markedOf refusalOf wordsIn residueOf equationsOf claimOf vectorsOf lineIsRight
     describes
 step-zero-two-marked = refl
 

@@ -10,7 +10,7 @@ use mathlib.Core.List.{List, [], _∷_}
 use Prim.Native.Nat.{ℕ, zero, suc, _+_, _-_, _<_, _≤_}
 use native.Mathlib.Omega.{arith}
 use lib.Dec.{T, ltb→lt, leb→le}
-use lib.ListN.{length, take, drop, length-append, length-drop}
+use lib.ListN.{length, length-append}
 use lib.Seq.{length-take-le}
 use Rattle.questions.specs.Questions.{allowedModulus, allowedOwn}
 use Rattle.questions.proofs.Questions.{own-least, whole-own}
@@ -18,6 +18,7 @@ use Rattle.equations.specs.Vectors.{Below}
 use Rattle.equations.specs.Equation.{Equation}
 use Rattle.equations.specs.Line.{Line}
 use Rattle.equations.proofs.Truth.{true-of}
+use Rattle.equations.proofs.Without.{without-length}
 use Rattle.equations.proofs.Vectors.{vector-below, below-take, below-at}
 use Rattle.words.specs.declared.unpacking.Word.{Word}
 use Rattle.words.specs.Words.{wordsIn}
@@ -30,7 +31,7 @@ use Rattle.ledger.specs.Ledger.{Ledger, unopened, opened, isOpened, modu
 use Rattle.ledger.specs.Shapes.{isEquation, ownModulus, equationWords}
 use Rattle.ledger.specs.Calls.{Entry, opens, adds, types, strikes, enters}
 use Rattle.ledger.specs.Questions.{allowedUnknowns, refusalOf}
-use Rattle.ledger.specs.History.{Effect, begins, gains, loses, struckAt, effectOf, changed, without, enter}
+use Rattle.ledger.specs.History.{Effect, begins, gains, loses, struckAt, effectOf, changed, enter}
 use Rattle.ledger.proofs.Shapes.{equation-length, behindOwn, equation-memory}
 use Rattle.ledger.proofs.Questions.{accepted-yes}
 
@@ -105,10 +106,6 @@ unfolding enter
 enter-accepted l e none = rw none
 
 -- ---- how many equations there are then
-
-without-length : {A : Type 0} (j : ℕ) (xs : List A) → j < length xs → length (without j xs) ≡ length xs - 1
-without-length j xs h =
-    omega (arith, length-append (take j xs) (drop (suc j) xs), length-take-le j xs (omega arith), length-drop (suc j) xs)
 
 pub gains-counts : (l : Ledger) (line : Line) → T (isOpened l)
     → length (linesIn (changed l (gains line))) ≡ length (linesIn l) + 1

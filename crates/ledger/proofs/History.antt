@@ -5,13 +5,14 @@ use mathlib.Core.List.{List, [], _∷_, _++_}
 use Prim.Native.Nat.{ℕ}
 use borrow.Author.Tests.{eqb-true}
 use lib.Dec.{eqb}
+use Rattle.equations.specs.Lists.{without}
 use Rattle.equations.specs.Line.{Line}
 use Rattle.words.specs.Words.{wordsIn}
 use Rattle.ledger.specs.Ledger.{Ledger, unopened, opened}
 use Rattle.ledger.specs.Shapes.{numberAt}
 use Rattle.ledger.specs.Calls.{Call, opens, enters, queries}
 use Rattle.ledger.specs.Questions.{refusalOf}
-use Rattle.ledger.specs.History.{Effect, begins, gains, loses, effectOf, changed, without, enter, ledgerFrom, ledger}
+use Rattle.ledger.specs.History.{Effect, begins, gains, loses, effectOf, changed, enter, ledgerFrom, ledger}
 use Rattle.ledger.proofs.Effects.{Allows, accepted-allows, enter-accepted}
 
 from-append : (l : Ledger) (xs ys : List Call) → ledgerFrom l (xs ++ ys) ≡ ledgerFrom (ledgerFrom l xs) ys

@@ -2,8 +2,9 @@
 -- calls alone" and "sees neither the sheet's own record nor what a call gives back". Definitions only.
 use mathlib.Core.List.{List, [], _∷_, _++_}
 use Prim.Native.Nat.{ℕ, zero, suc, _-_}
-use lib.ListN.{length, take, drop}
+use lib.ListN.{length}
 use Rattle.questions.specs.Questions.{unlessRefused}
+use Rattle.equations.specs.Lists.{without}
 use Rattle.equations.specs.Line.{Line}
 use Rattle.words.specs.Words.{wordsIn}
 use Rattle.grammar.specs.Texts.{typedOf, equationIn}
@@ -33,10 +34,6 @@ effectOf l (types text) =
 -- "Accepted strike: the last equation goes."; "The ledger's strike is amended so": the one at its place goes
 effectOf l (strikes place) = loses (struckAt (length (linesIn l)) place)
 
--- all but what stands at place j: "Later lines close up in order"
-abbrev pub without : {A : Type 0} → ℕ → List A → List A
-without j xs = take j xs ++ drop (suc j) xs
-
 -- the ledger after it; an unopened one has no list
 abbrev pub changed : Ledger → Effect → Ledger
 -- "Accepted open: m, n, empty list, whatever was there before."
@@ -44,6 +41,7 @@ changed l (begins m n) = opened m n []
 -- "Accepted add: the equation goes to the end, also when the list already has no solution."
 changed unopened (gains line) = unopened
 changed (opened m n ls) (gains line) = opened m n (ls ++ (line ∷ []))
+-- "Later lines close up in order"
 changed unopened (loses j) = unopened
 changed (opened m n ls) (loses j) = opened m n (without j ls)
 

@@ -5,8 +5,8 @@ use Prim.Native.Nat.{ℕ}
 use Rattle.equations.specs.declared.Mark.{Mark}
 use Rattle.equations.specs.declared.Mark.the-variants.{Pass, Fail}
 use Rattle.equations.specs.declared.Reason.{Reason}
-use Rattle.equations.specs.declared.Reason.the-variants.{Right, Solvable, Unsolvable, Breaks, Changes, Misses}
-use Rattle.equations.specs.Line.{linePasses}
+use Rattle.equations.specs.declared.Reason.the-variants.{Passes, Solvable, Unsolvable, Breaks, Changes, Misses}
+use Rattle.equations.specs.Line.{lineIsRight}
 use Rattle.equations.specs.LineReasons.{lineReason}
 use Rattle.system.specs.Lines.{lineShown}
 use Rattle.words.specs.Words.{wordsIn, wordsOf, entryKind, multiplierKind}
@@ -15,7 +15,7 @@ use Rattle.ledger.specs.Shapes.{claimFrom}
 
 -- "Pass if the described vectors are those that solve the ledger's equations, fail otherwise.", each line mod its q
 abbrev pub claimMark : Ledger → List ℕ → Mark
-claimMark l ws = cond (linePasses (modulusOf l) (unknownsOf l) (linesIn l) (claimFrom (unknownsOf l) (wordsIn ws))) Pass Fail
+claimMark l ws = cond (lineIsRight (modulusOf l) (unknownsOf l) (linesIn l) (claimFrom (unknownsOf l) (wordsIn ws))) Pass Fail
 
 -- "The tool gives the first of these that holds"
 abbrev pub claimReason : Ledger → List ℕ → Reason
@@ -27,7 +27,7 @@ reasonNumbers l ws = lineShown (modulusOf l) (unknownsOf l) (linesIn l) (claimFr
 
 -- "It writes words of kinds 6 and 7 as the answer does": the entries of a vector, or multipliers
 abbrev pub shownKind : Reason → ℕ
-shownKind Right = entryKind
+shownKind Passes = entryKind
 shownKind Solvable = entryKind
 shownKind Unsolvable = multiplierKind
 shownKind (Breaks equation) = entryKind

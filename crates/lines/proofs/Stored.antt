@@ -24,7 +24,7 @@ use mir.Facts.{and-yes, yes-and, yes-eqb}
 use Rattle.residue.specs.Divides.{Divides}
 use Rattle.residue.proofs.Divides.{divides-of-remainder, remainder-of-divides}
 use Rattle.questions.specs.Questions.{allowedOwn}
-use Rattle.equations.specs.Lists.{every}
+use Rattle.equations.specs.Lists.{every, without}
 use Rattle.equations.specs.Vectors.{Below}
 use Rattle.equations.specs.Equation.{Equation, Shaped}
 use Rattle.equations.specs.Lines.{equationsOf}
@@ -186,8 +186,7 @@ module _ (m q : ℕ) (e : Equation) where
 
 module _ (m : ℕ) where
   pub stored-without : (j : ℕ) (qs : List ℕ) (es : List Equation) → length qs ≡ length es
-      → stored m (take j qs ++ drop (suc j) qs) (take j es ++ drop (suc j) es)
-      ≡ take j (stored m qs es) ++ drop (suc j) (stored m qs es)
+      → stored m (without j qs) (without j es) ≡ without j (stored m qs es)
   stored-without zero [] [] same = refl
   stored-without (suc j) [] [] same = refl
   stored-without j [] (e ∷ es) same = absurd (omega (arith, same))
@@ -197,7 +196,7 @@ module _ (m : ℕ) where
       ap (λ (ls : List Line). storedOne m q e ∷ ls) (stored-without j qs es (omega (arith, same)))
 
   pub fit-without : (j : ℕ) (qs : List ℕ) (es : List Equation) → length qs ≡ length es → T (allFit m qs es)
-      → T (allFit m (take j qs ++ drop (suc j) qs) (take j es ++ drop (suc j) es))
+      → T (allFit m (without j qs) (without j es))
   fit-without zero [] [] same t = tt
   fit-without (suc j) [] [] same t = tt
   fit-without j [] (e ∷ es) same t = absurd (omega (arith, same))
@@ -205,8 +204,7 @@ module _ (m : ℕ) where
   fit-without zero (q ∷ qs) (e ∷ es) same t = and-yes (fits m q e) (allFit m qs es) t .1
   fit-without (suc j) (q ∷ qs) (e ∷ es) same t =
       let both = and-yes (fits m q e) (allFit m qs es) t in
-      yes-and (fits m q e) (allFit m (take j qs ++ drop (suc j) qs) (take j es ++ drop (suc j) es)) (both .0)
-      (fit-without j qs es (omega (arith, same)) (both .1))
+      yes-and (fits m q e) (allFit m (without j qs) (without j es)) (both .0) (fit-without j qs es (omega (arith, same)) (both .1))
 
 -- ---- line by line, off the numbers that they lie in
 

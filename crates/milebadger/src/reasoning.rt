@@ -52,7 +52,7 @@ fn named_by(reason: Reason) -> Named
     ensures { λ r. ⌜ (r .number ≡ reasonNumber reason) × (r .step ∷ r .equation ∷ [] ≡ placesIn reason) ⌝ }
 {
     match reason {
-        Reason::Right => Named {
+        Reason::Passes => Named {
             number: 0,
             step: 0,
             equation: 0,

@@ -18,11 +18,11 @@ use lib.Seq.{take-at}
 use Rattle.slices.specs.Over.{over}
 use Rattle.equations.specs.declared.Mark.the-variants.{Pass, Fail}
 use Rattle.equations.specs.Equation.{Equation}
-use Rattle.equations.specs.Claim.{Claim, passes}
+use Rattle.equations.specs.Claim.{Claim, isRight}
 use Rattle.equations.specs.Reasons.{reasonOf}
-use Rattle.equations.specs.Line.{linePasses, scaled}
+use Rattle.equations.specs.Line.{lineIsRight, scaled}
 use Rattle.equations.specs.LineReasons.{lineReason}
-use Rattle.equations.proofs.LineAnswer.{line-passes}
+use Rattle.equations.proofs.LineAnswer.{line-right}
 use Rattle.equations.proofs.LineReasons.{line-reason}
 use Rattle.system.specs.declared.explaining.Finding.{Finding}
 use Rattle.system.specs.Claims.{Claimed, claimOf}
@@ -109,14 +109,14 @@ module _ (l : Ledger) (ws : List ℕ) (accepted : refusalOf l (queries (marks ws
         read = claimOf (unknownsOf l) (entriesOf (wordsIn ws))
 
         pub marked-as : (result : Bool)
-            → result ≡ passes (see .modulus) (see .unknowns) es (claimOf (see .unknowns) (take (h * see .unknowns + 1 - 1) (drop 1 new)))
+            → result ≡ isRight (see .modulus) (see .unknowns) es (claimOf (see .unknowns) (take (h * see .unknowns + 1 - 1) (drop 1 new)))
             → Gets (cond result Pass Fail) ≡ markedOf l ws
         unfolding markedOf
         marked-as result is =
-            let decided : result ≡ linePasses m n (linesIn l) read =
+            let decided : result ≡ lineIsRight m n (linesIn l) read =
             is
             ∙ (rw (entries-are, same-es, sees .modulus, sees .unknowns)
-            (sym (line-passes m n (omega (arith, allowed .modulus)) (linesIn l) (allowed .moduli) read))) in
+            (sym (line-right m n (omega (arith, allowed .modulus)) (linesIn l) (allowed .moduli) read))) in
             rw (accepted, decided)
 
         found-reason : reasonOf m n (scaled m (linesIn l)) read ≡ lineReason m n (linesIn l) read

@@ -17,10 +17,10 @@ use lib.Dec.{T}
 use Rattle.questions.proofs.Questions.{unless-either}
 use Rattle.equations.specs.declared.Mark.{Mark}
 use Rattle.equations.specs.declared.Mark.the-variants.{Pass, Fail}
-use Rattle.equations.specs.Line.{Line, Moduli, lineStart, linePasses}
+use Rattle.equations.specs.Line.{Line, Moduli, lineStart, lineIsRight}
 use Rattle.equations.specs.Multipliers.{allBelow}
 use Rattle.equations.proofs.Truth.{true-of, cond-tells}
-use Rattle.equations.proofs.LineAnswer.{line-passes-described}
+use Rattle.equations.proofs.LineAnswer.{line-right-described}
 use Rattle.equations.proofs.LinePromises.{line-own-answer}
 use Rattle.system.proofs.Claims.{claim-described}
 use Rattle.words.specs.Words.{numbersOfAKind, wordsIn}
@@ -77,18 +77,18 @@ module _ (m n : ℕ) (ls : List Line) where
       (true-of (allBelow m (entriesOf (wordsIn ws))) (well .1))
 
   well-described : 0 < m → (ws : List ℕ) → WellFormed m n ws
-      → T (linePasses m n ls (claimFrom n (wordsIn ws))) ↔ DescribesSolutions m n ls (claimFrom n (wordsIn ws))
+      → T (lineIsRight m n ls (claimFrom n (wordsIn ws))) ↔ DescribesSolutions m n ls (claimFrom n (wordsIn ws))
   well-described pos ws well =
-      line-passes-described m n ls (claimFrom n (wordsIn ws))
+      line-right-described m n ls (claimFrom n (wordsIn ws))
       (claim-described m n (entriesOf (wordsIn ws)) pos (claimed n ws (well .0) m (well .1)))
 
   -- whatever tells the two marks apart tells what decides whether the claim passes
-  pub mark-decides : (ws : List ℕ) {P : Type 0} → T (linePasses m n ls (claimFrom n (wordsIn ws))) ↔ P → {A : Type 0} (f : Mark → A)
+  pub mark-decides : (ws : List ℕ) {P : Type 0} → T (lineIsRight m n ls (claimFrom n (wordsIn ws))) ↔ P → {A : Type 0} (f : Mark → A)
       → (f Pass ≡ f Fail → ⊥)
       → ((f (claimMark (opened m n ls) ws) ≡ f Pass) ↔ P) × ((f (claimMark (opened m n ls) ws) ≡ f Fail) ↔ (P → ⊥))
   mark-decides ws same f apart =
-      rw (by-test f (linePasses m n ls (claimFrom n (wordsIn ws))))
-      (cond-tells (f Pass) (f Fail) apart (linePasses m n ls (claimFrom n (wordsIn ws))) same)
+      rw (by-test f (lineIsRight m n ls (claimFrom n (wordsIn ws))))
+      (cond-tells (f Pass) (f Fail) apart (lineIsRight m n ls (claimFrom n (wordsIn ws))) same)
 
   pub mark-tells : 0 < m → (ws : List ℕ) → WellFormed m n ws → {A : Type 0} (f : Mark → A) → (f Pass ≡ f Fail → ⊥)
       → ((f (claimMark (opened m n ls) ws) ≡ f Pass) ↔ DescribesSolutions m n ls (claimFrom n (wordsIn ws)))
@@ -108,5 +108,5 @@ module _ (m n : ℕ) (ls : List Line) where
       (well-accepted (answerWords (opened m n ls))
       (own-shape m n pos ls moduli largest c start unknowns, own-entries m n pos ls moduli largest c start))
       ∙ ap (λ (b : Bool). Gets (cond b Pass Fail))
-      (ap (linePasses m n ls) (own-claim m n pos ls moduli largest c start one)
+      (ap (lineIsRight m n ls) (own-claim m n pos ls moduli largest c start one)
       ∙ true-of _ (line-own-answer m n ls pos moduli .0 c start))

@@ -10,7 +10,7 @@ use lib.ListN.{length, length-map}
 use Rattle.slices.specs.Over.{over}
 use Rattle.equations.specs.declared.Mark.the-variants.{Pass, Fail}
 use Rattle.equations.specs.declared.Reason.{Reason}
-use Rattle.equations.specs.declared.Reason.the-variants.{Right}
+use Rattle.equations.specs.declared.Reason.the-variants.{Passes}
 use Rattle.equations.specs.Line.{Line}
 use Rattle.system.proofs.Claims.{claim-formed}
 use Rattle.system.proofs.Lines.{no-line-reason}
@@ -46,8 +46,8 @@ module _ (m n : ℕ) (ls : List Line) (ws : List ℕ) (allowed : Allowed m n ls)
   accepted : refusalOf (opened m n ls) (queries (marks ws)) ≡ 0
   accepted = well-accepted m n ls ws well
 
-  tells : ((markedOf (opened m n ls) ws ≡ Gets Pass) ↔ (claimReason (opened m n ls) ws ≡ Right))
-      × ((markedOf (opened m n ls) ws ≡ Gets Fail) ↔ (claimReason (opened m n ls) ws ≡ Right → ⊥))
+  tells : ((markedOf (opened m n ls) ws ≡ Gets Pass) ↔ (claimReason (opened m n ls) ws ≡ Passes))
+      × ((markedOf (opened m n ls) ws ≡ Gets Fail) ↔ (claimReason (opened m n ls) ws ≡ Passes → ⊥))
   tells =
       let none = no-line-reason m n ls (claimFrom n (wordsIn ws)) (omega (arith, allowed .modulus)) (allowed .moduli) (allowed .shaped)
       (claim-formed m n (entriesOf (wordsIn ws)) (claimed n ws (well .0) m (well .1))) in
@@ -71,8 +71,8 @@ module _ (m n : ℕ) (ls : List Line) (ws : List ℕ) (allowed : Allowed m n ls)
   right-reason s reads =
       record {
         reason = reason;
-        passed = subst (λ (k : Ledger). (markedOf k ws ≡ Gets Pass) ↔ (reason ≡ Right)) (sym reads) (tells .0);
-        failed = subst (λ (k : Ledger). (markedOf k ws ≡ Gets Fail) ↔ (reason ≡ Right → ⊥)) (sym reads) (tells .1);
+        passed = subst (λ (k : Ledger). (markedOf k ws ≡ Gets Pass) ↔ (reason ≡ Passes)) (sym reads) (tells .0);
+        failed = subst (λ (k : Ledger). (markedOf k ws ≡ Gets Fail) ↔ (reason ≡ Passes → ⊥)) (sym reads) (tells .1);
         shown = shown;
         says = reason-says l ws accepted allowed;
         given = λ old long.

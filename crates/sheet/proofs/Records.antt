@@ -14,6 +14,7 @@ use lib.ListN.{length, take, drop, length-append, length-drop, length-map}
 use lib.Seq.{take-at, drop-at, take-take, length-take-le}
 use Rattle.questions.specs.Questions.{allowedModulus, largestModulus}
 use Rattle.questions.proofs.Questions.{within-range}
+use Rattle.equations.specs.Lists.{without}
 use Rattle.equations.specs.Vectors.{Below}
 use Rattle.equations.specs.Equation.{Equation}
 use Rattle.equations.specs.Lines.{equationsOf}
@@ -25,7 +26,7 @@ use Rattle.lines.specs.Stored.{inRow, allFit, stored}
 use Rattle.lines.proofs.Stored.{own-divides, stored-scaled, scaled-fits, stored-snoc, fit-snoc, stored-without, fit-without}
 use Rattle.ledger.specs.Ledger.{Ledger, opened, mostEquations, mostUnknowns}
 use Rattle.ledger.specs.Questions.{allowedUnknowns}
-use Rattle.ledger.specs.History.{Effect, begins, gains, loses, changed, without}
+use Rattle.ledger.specs.History.{Effect, begins, gains, loses, changed}
 use Rattle.ledger.proofs.Effects.{Gains, Allows}
 use Rattle.sheet.specs.Record.{Sheet, modulusIn, unknownsIn, heldIn, moduliIn, cellsIn, sheetOf, size, cellsOf, ownIn, numbersIn, lyingIn, ledgerOf, writtenAt, recordBy}
 use Rattle.sheet.proofs.Reading.{Fit, filled, lying, readable-fit, fit-readable, cells-room, moduli-room, length-numbers, length-own, same-count, filled-fits, opened-readable, ledger-opened, held-counts}

@@ -7,12 +7,13 @@ use native.Mathlib.Omega.{arith}
 use borrow.Author.Tests.{lt-ltb, le-leb, lt-leb, leb-false}
 use lib.Dec.{T, leb, ltb, lt→ltb}
 use lib.ListN.{length, length-append}
+use Rattle.equations.specs.Lists.{without}
 use Rattle.equations.specs.Line.{Line}
 use Rattle.equations.proofs.Truth.{false-of, of-false}
 use Rattle.ledger.specs.Ledger.{Ledger, opened}
 use Rattle.ledger.specs.Calls.{strikes, enters}
 use Rattle.ledger.specs.Questions.{refusalOf}
-use Rattle.ledger.specs.History.{struckAt, effectOf, changed, without}
+use Rattle.ledger.specs.History.{struckAt, effectOf, changed}
 use Rattle.sheet.specs.declared.Entered.the-variants.{Refused}
 use Rattle.sheet.specs.Record.{ledgerOf}
 use Rattle.sheet.specs.Calls.{enteredOf, sheetAfter}

@@ -20,7 +20,7 @@ use Rattle.equations.specs.Whole.{HoldsWhole}
 use Rattle.equations.specs.Multipliers.{allBelow}
 use Rattle.equations.specs.declared.Mark.the-variants.{Pass, Fail}
 use Rattle.equations.specs.declared.Reason.{Reason}
-use Rattle.equations.specs.declared.Reason.the-variants.{Right}
+use Rattle.equations.specs.declared.Reason.the-variants.{Passes}
 use Rattle.equations.specs.Claim.{Claim, describes}
 use Rattle.equations.specs.Line.{Line, holdsOne, holds, lineStart, lineSteps, lineRefutes}
 use Rattle.equations.specs.LineReasons.{LineSays}
@@ -232,8 +232,8 @@ StruckAlways = (s : Sheet) (m n : ℕ) (ls : List Line) (place : ℕ) → ledger
 pub record RightReason (s : Sheet) (m n : ℕ) (ls : List Line) (ws : List ℕ) : Type 0 where
   -- "A passed claim gives no reason, and each failed one gives a reason"
   pub reason : Reason
-  pub passed : (markedOf (ledgerOf s) ws ≡ Gets Pass) ↔ (reason ≡ Right)
-  pub failed : (markedOf (ledgerOf s) ws ≡ Gets Fail) ↔ (reason ≡ Right → ⊥)
+  pub passed : (markedOf (ledgerOf s) ws ≡ Gets Pass) ↔ (reason ≡ Passes)
+  pub failed : (markedOf (ledgerOf s) ws ≡ Gets Fail) ↔ (reason ≡ Passes → ⊥)
   -- "that is true as stated", with the numbers that are shown
   pub shown : List ℕ
   pub says : LineSays m n ls (claimFrom n (wordsIn ws)) reason shown

@@ -94,7 +94,7 @@ fn kind_of(reason: Reason) -> u32
     ensures { λ r. ⌜ (r ≡ shownKind reason) × (r < 16) ⌝ }
 {
     match reason {
-        Reason::Right => ENTRY,
+        Reason::Passes => ENTRY,
         Reason::Solvable => ENTRY,
         Reason::Unsolvable => MULTIPLIER,
         Reason::Breaks(equation) => ENTRY,

@@ -18,13 +18,13 @@ use lib.ListN.{length, drop, replicate}
 use borrow.Author.Tests.{eqb-true, eqb-false, eq-eqb, ne-eqb}
 use Rattle.slices.specs.Over.{over}
 use Rattle.equations.specs.declared.Reason.{Reason}
-use Rattle.equations.specs.declared.Reason.the-variants.{Right, Solvable, Unsolvable, Breaks, Changes, Misses}
+use Rattle.equations.specs.declared.Reason.the-variants.{Passes, Solvable, Unsolvable, Breaks, Changes, Misses}
 use Rattle.equations.specs.Lists.{every}
 use Rattle.equations.specs.Vectors.{Vector, AllVectors, Below}
 use Rattle.equations.specs.Equation.{Equation, solves, Shaped}
 use Rattle.equations.specs.Lines.{equationsOf}
 use Rattle.equations.specs.Answer.{startOf}
-use Rattle.equations.specs.Claim.{Claim, noSolution, from, passes}
+use Rattle.equations.specs.Claim.{Claim, noSolution, from, isRight}
 use Rattle.equations.specs.Reasons.{hasSolution, brokenAt, keeps, changedStep, changedLine, reasonOf}
 use Rattle.equations.proofs.Truth.{true-of, of-true, true-or-false}
 use Rattle.equations.proofs.Lists.{someone-of}
@@ -42,7 +42,7 @@ use Rattle.elimination.specs.Missed.Step.{missed-step}
 use Rattle.elimination.proofs.Substitution.{below-extend}
 use Rattle.elimination.proofs.Turned.{below-turned}
 use Rattle.elimination.proofs.Answer.{answer-none}
-use Rattle.elimination.proofs.Missed.{apart-passes, apart-above, missed-law}
+use Rattle.elimination.proofs.Missed.{apart-right, apart-above, missed-law}
 use Rattle.system.specs.declared.explaining.Finding.{Finding}
 use Rattle.system.specs.Reasons.{startShown, shownFor, shownWith, findingOf}
 use Rattle.system.specs.Posed.{Posed}
@@ -126,9 +126,9 @@ module _ (m n : ℕ) (es : List Equation) (claim : Claim) (r : Reason) (reason :
   explained len size written = rw (reason, size) (refl, written)
 
 module _ (m n : ℕ) (es : List Equation) where
-  pub reason-none : (b : Bool) → b ≡ hasSolution m n es → reasonOf m n es noSolution ≡ cond b Solvable Right
+  pub reason-none : (b : Bool) → b ≡ hasSolution m n es → reasonOf m n es noSolution ≡ cond b Solvable Passes
   unfolding reasonOf
-  reason-none b e = ap (λ (z : Bool). cond z Solvable Right) (sym e)
+  reason-none b e = ap (λ (z : Bool). cond z Solvable Passes) (sym e)
 
   module _ (c : List ℕ) (ss : List (List ℕ)) where
     -- the start breaks the equation with the number i
@@ -173,15 +173,15 @@ module _ (m n : ℕ) (es : List Equation) where
       -- and no step changes a left side; p is the place where a step is missing
       module _ (vs : AllVectors m n ss) (steps : every (keeps m es) ss ≡ true) (p : ℕ)
           (p-is : p ≡ apart m n (tableau m n 0 es) (basis m n 0 ss)) where
-        outcome : (b : Bool) → eqb p 0 ≡ b → passes m n es (from c ss) ≡ b
-        outcome b t = sym (apart-passes m n es c ss pos shaped vec vs start steps) ∙ ap (λ (z : ℕ). eqb z 0) (sym p-is) ∙ t
+        outcome : (b : Bool) → eqb p 0 ≡ b → isRight m n es (from c ss) ≡ b
+        outcome b t = sym (apart-right m n es c ss pos shaped vec vs start steps) ∙ ap (λ (z : ℕ). eqb z 0) (sym p-is) ∙ t
 
-        reason-right : p ≡ 0 → reasonOf m n es (from c ss) ≡ Right
+        reason-right : p ≡ 0 → reasonOf m n es (from c ss) ≡ Passes
         unfolding reasonOf
         reason-right z = rw (some, start, steps, outcome true (eq-eqb p 0 z))
 
         module _ (missing : p ≡ 0 → ⊥) where
-          wrong : passes m n es (from c ss) ≡ false
+          wrong : isRight m n es (from c ss) ≡ false
           wrong = outcome false (ne-eqb p 0 missing)
 
           reason-misses : reasonOf m n es (from c ss) ≡ Misses
@@ -218,10 +218,10 @@ module _ (m n : ℕ) (lines s start steps : List ℕ) (posed : Posed m n lines) 
   of-tableau = is ∙ ap (λ (B : List (List ℕ)). apart m n B (basis m n 0 ss)) (based .rows)
 
   pub found-right : p ≡ 0 → (old : List ℕ)
-      → (record { reason = Right; len = 0 } ≡ findingOf m n (equationsOf n lines) (from start (vectorsOf n steps)))
+      → (record { reason = Passes; len = 0 } ≡ findingOf m n (equationsOf n lines) (from start (vectorsOf n steps)))
       × (old ≡ over (shownWith m n (equationsOf n lines) (from start (vectorsOf n steps))) old)
   found-right z old =
-      explained m n lists (from start ss) Right
+      explained m n lists (from start ss) Passes
       (reason-right m n lists start ss positive (equations-shaped n lines) vec right listed kept p of-tableau z) old 0 refl refl
 
   module _ (missing : p ≡ 0 → ⊥) where

@@ -16,19 +16,19 @@ use native.Mathlib.Omega.{arith}
 use lib.ListN.{length, length-map}
 use lib.Dec.{T}
 use Rattle.equations.specs.declared.Reason.{Reason}
-use Rattle.equations.specs.declared.Reason.the-variants.{Right, Solvable, Unsolvable, Breaks, Changes, Misses}
+use Rattle.equations.specs.declared.Reason.the-variants.{Passes, Solvable, Unsolvable, Breaks, Changes, Misses}
 use Rattle.equations.specs.Lists.{every}
 use Rattle.equations.specs.Vectors.{Vector, AllVectors, Below}
 use Rattle.equations.specs.Equation.{Equation, Shaped}
 use Rattle.equations.specs.Claim.{Claim, noSolution, from}
 use Rattle.equations.specs.Reasons.{Solution}
-use Rattle.equations.specs.Line.{Line, Moduli, ShapedLines, holds, lineStart, lineSteps, linePasses, scaledOne, scaled, lineRefutes, linesMod}
+use Rattle.equations.specs.Line.{Line, Moduli, ShapedLines, holds, lineStart, lineSteps, lineIsRight, scaledOne, scaled, lineRefutes, linesMod}
 use Rattle.equations.specs.LineReasons.{lineSolvable, lineKeeps, lineReason, LineSolution, LineSays}
 use Rattle.equations.proofs.Truth.{of-true, of-false}
 use Rattle.equations.proofs.Vectors.{vector-length, vector-below}
 use Rattle.equations.proofs.Multipliers.{refutes-is}
 use Rattle.equations.proofs.Scaled.{holds-scaled, scaled-shaped}
-use Rattle.equations.proofs.LineAnswer.{line-start, line-steps, line-passes, plain-moduli, plain-scaled}
+use Rattle.equations.proofs.LineAnswer.{line-start, line-steps, line-right, plain-moduli, plain-scaled}
 use Rattle.equations.proofs.LineReasons.{line-solution-of, line-no-solution-of, line-broken-first, line-changed-first, same-kept, solvable-scaled, line-reason}
 use Rattle.equations.proofs.LinePromises.{line-no-start, line-own-answer}
 use Rattle.elimination.proofs.LineMultipliers.{line-multipliers-refute}
@@ -112,7 +112,7 @@ module _ (m n : ℕ) (pos : 0 < m) (ls : List Line) (moduli : Moduli m ls) (shap
   -- by the outcomes of the four tests
   module _ (c : List ℕ) (ss : List (List ℕ)) (vec : Vector m n c) (vs : AllVectors m n ss) where
     from-says : (a b d e : Bool) → lineSolvable m n ls ≡ a → holds ls c ≡ b → every (lineKeeps ls) ss ≡ d
-        → linePasses m n ls (from c ss) ≡ e
+        → lineIsRight m n ls (from c ss) ≡ e
         → LineSays m n ls (from c ss) (lineReason m n ls (from c ss)) (lineShown m n ls (from c ss))
     unfolding lineReason lineShown
     from-says false b d e p q r s =
@@ -124,19 +124,19 @@ module _ (m n : ℕ) (pos : 0 < m) (ls : List Line) (moduli : Moduli m ls) (shap
         let missed =
         missed-law m n equal c ss pos equal-shaped vec vs (sym (holds-scaled m pos ls moduli c) ∙ q)
         (ap (λ (t : List ℕ → Bool). every t ss) (sym (same-kept m pos ls moduli)) ∙ r)
-        (sym (line-passes m n pos ls moduli (from c ss)) ∙ s) in
+        (sym (line-right m n pos ls moduli (from c ss)) ∙ s) in
         rw (p, q, r, s) ((of-true q, of-true r), line-solution _ (missed .0), missed .1)
 
 pub true-line-reason : TrueLineReason
 true-line-reason m n ls noSolution pos moduli shaped formed = none-says m n pos ls moduli shaped (lineSolvable m n ls) refl
 true-line-reason m n ls (from c ss) pos moduli shaped formed =
     from-says m n pos ls moduli shaped c ss (formed .0) (formed .1) (lineSolvable m n ls) (holds ls c) (every (lineKeeps ls) ss)
-    (linePasses m n ls (from c ss)) refl refl refl refl
+    (lineIsRight m n ls (from c ss)) refl refl refl refl
 
 pub no-line-reason : NoLineReason
 no-line-reason m n ls claim pos moduli shaped formed =
     let same = line-reason m pos ls moduli n claim in
-    let marks = line-passes m n pos ls moduli claim in
+    let marks = line-right m n pos ls moduli claim in
     let law = no-reason m n (scaled m ls) claim pos (scaled-shaped m n ls shaped) formed in (
       (λ h. subst T (sym marks) (law .0 (sym same ∙ h))),
       λ t. same ∙ law .1 (subst T marks t),
@@ -147,7 +147,7 @@ no-line-reason m n ls claim pos moduli shaped formed =
 pub line-says-residues : (m n : ℕ) (ls : List Line) (claim : Claim) (r : Reason) (shown : List ℕ) → LineSays m n ls claim r shown
     → Below m shown
 unfolding lineRefutes
-line-says-residues m n ls claim Right shown says = rw (says .1) tt
+line-says-residues m n ls claim Passes shown says = rw (says .1) tt
 line-says-residues m n ls claim Solvable shown says = vector-below m n shown (says .1 .0)
 line-says-residues m n ls claim Unsolvable shown says = refutes-is m n (scaled m ls) shown .0 (says .1) .below
 line-says-residues m n ls claim (Breaks i) shown says = rw (says .1) tt
@@ -157,7 +157,7 @@ line-says-residues m n ls claim Misses shown says = vector-below m n shown (says
 pub line-says-few : (k m n : ℕ) (ls : List Line) (claim : Claim) (r : Reason) (shown : List ℕ) → n ≤ k → length ls ≤ k
     → LineSays m n ls claim r shown → length shown ≤ k
 unfolding lineRefutes
-line-says-few k m n ls claim Right shown few held says = rw (says .1) (omega arith)
+line-says-few k m n ls claim Passes shown few held says = rw (says .1) (omega arith)
 line-says-few k m n ls claim Solvable shown few held says = omega (arith, vector-length m n shown (says .1 .0))
 line-says-few k m n ls claim Unsolvable shown few held says = omega (arith, refutes-is m n (scaled m ls) shown .0 (says .1) .one-each, length-map ls (scaledOne m))
 line-says-few k m n ls claim (Breaks i) shown few held says = rw (says .1) (omega arith)

@@ -20,7 +20,7 @@ use borrow.Author.Tests.{eqb-true, eqb-false, eq-eqb, ne-eqb}
 use Rattle.slices.proofs.Parts.{lent, lent-is}
 use Rattle.equations.specs.Lists.{every}
 use Rattle.equations.specs.Equation.{Equation, solves}
-use Rattle.equations.specs.Claim.{Claim, noSolution, from, passes}
+use Rattle.equations.specs.Claim.{Claim, noSolution, from, isRight}
 use Rattle.equations.specs.Reasons.{brokenAt, keeps, changedStep}
 use Rattle.equations.proofs.Truth.{true-or-false}
 use Rattle.equations.proofs.Fails.{fails-none}
@@ -113,43 +113,43 @@ module _ (m n : ℕ) (lines claim : List ℕ) (posed : Posed m n lines) (claimed
   abbrev both : Claim → Bool
   both c = claimSolves m es c && missesNone m n (tableau m n 0 es) c
 
-  of-none : both noSolution ≡ passes m n es noSolution
+  of-none : both noSolution ≡ isRight m n es noSolution
   of-none = by-test (true-or-false (eqb d m))
     where
       d : ℕ
       d = pivot n (tableau m n 0 es)
 
-      right : (d ≡ m → passes m n es noSolution ≡ false) × ((d ≡ m → ⊥) → passes m n es noSolution ≡ true)
+      right : (d ≡ m → isRight m n es noSolution ≡ false) × ((d ≡ m → ⊥) → isRight m n es noSolution ≡ true)
       right = marking-none m n 0 es (omega (arith, posed .modulus)) (equations-shaped n lines)
 
-      by-test : (eqb d m ≡ true) ⊎ (eqb d m ≡ false) → not (eqb d m) ≡ passes m n es noSolution
+      by-test : (eqb d m ≡ true) ⊎ (eqb d m ≡ false) → not (eqb d m) ≡ isRight m n es noSolution
       by-test (inl t) = ap not t ∙ sym (right .0 (eqb-true d m t))
       by-test (inr t) = ap not t ∙ sym (right .1 (eqb-false d m t))
 
   of-some : (length claim ≡ 0 → ⊥)
-      → both (from (take n claim) (vectorsOf n (lent n claim))) ≡ passes m n es (from (take n claim) (vectorsOf n (lent n claim)))
+      → both (from (take n claim) (vectorsOf n (lent n claim))) ≡ isRight m n es (from (take n claim) (vectorsOf n (lent n claim)))
   unfolding claimRight
   of-some some =
       marking m n 0 es (take n claim) (vectorsOf n (lent n claim)) (omega (arith, posed .modulus)) (equations-shaped n lines)
       (vector-of m n (take n claim) (length-take-le n claim (claim-front m n claim claimed some))
       (below-take m n claim (claimed .residues))) (vectors-long n (lent n claim))
 
-  decided : (length claim ≡ 0) ⊎ (length claim ≡ 0 → ⊥) → both (claimOf n claim) ≡ passes m n es (claimOf n claim)
+  decided : (length claim ≡ 0) ⊎ (length claim ≡ 0 → ⊥) → both (claimOf n claim) ≡ isRight m n es (claimOf n claim)
   decided (inl none) = rw (claim-of-none n claim none) of-none
   decided (inr some) = rw (← claim-of-some n claim some) (of-some some)
 
   marked : claimSolves m (equationsOf n lines) (claimOf n claim)
       && missesNone m n (tableau m n 0 (equationsOf n lines)) (claimOf n claim)
-      ≡ passes m n (equationsOf n lines) (claimOf n claim)
+      ≡ isRight m n (equationsOf n lines) (claimOf n claim)
   marked = ⊎-elim (λ none. decided (inl none)) (λ some. decided (inr (λ none. omega arith))) (eq-zero-or-pos (length claim))
 
   -- the mark by the outcomes of the two parts, a and b; b is asked where a holds
   module _ (a : Bool) (first : a ≡ claimSolves m (equationsOf n lines) (claimOf n claim)) where
-    pub not-solved : a ≡ false → false ≡ passes m n (equationsOf n lines) (claimOf n claim)
+    pub not-solved : a ≡ false → false ≡ isRight m n (equationsOf n lines) (claimOf n claim)
     not-solved f = ap (λ (x : Bool). x && missesNone m n (tableau m n 0 es) (claimOf n claim)) (sym f ∙ first) ∙ marked
 
     pub solved : a ≡ true → (B : List (List ℕ)) → B ≡ tableau m n 0 (equationsOf n lines) → (b : Bool)
-        → b ≡ missesNone m n B (claimOf n claim) → b ≡ passes m n (equationsOf n lines) (claimOf n claim)
+        → b ≡ missesNone m n B (claimOf n claim) → b ≡ isRight m n (equationsOf n lines) (claimOf n claim)
     solved t B same b second =
         second ∙ ap (λ (X : List (List ℕ)). missesNone m n X (claimOf n claim)) same
         ∙ ap (λ (x : Bool). x && missesNone m n (tableau m n 0 es) (claimOf n claim)) (sym t ∙ first) ∙ marked

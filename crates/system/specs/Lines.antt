@@ -6,11 +6,11 @@ use mathlib.Core.List.{List}
 use mathlib.Core.Option.{none}
 use Prim.Native.Nat.{ℕ, _<_}
 use lib.Dec.{T}
-use Rattle.equations.specs.declared.Reason.the-variants.{Right}
+use Rattle.equations.specs.declared.Reason.the-variants.{Passes}
 use Rattle.equations.specs.Equation.{Equation}
 use Rattle.equations.specs.Claim.{Claim}
 use Rattle.equations.specs.Reasons.{Formed}
-use Rattle.equations.specs.Line.{Line, Moduli, ShapedLines, lineStart, lineSteps, linePasses, scaled, lineRefutes, linesMod}
+use Rattle.equations.specs.Line.{Line, Moduli, ShapedLines, lineStart, lineSteps, lineIsRight, scaled, lineRefutes, linesMod}
 use Rattle.equations.specs.LineReasons.{lineReason, LineSays}
 use Rattle.elimination.specs.Multipliers.{multipliersOf}
 use Rattle.system.specs.Block.{blockWith, blockOf}
@@ -45,7 +45,7 @@ TrueLineReason =
 abbrev pub NoLineReason : Type 0
 NoLineReason =
     (m n : ℕ) (ls : List Line) (claim : Claim) → 0 < m → Moduli m ls → ShapedLines n ls → Formed m n claim
-    → (lineReason m n ls claim ≡ Right) ↔ T (linePasses m n ls claim)
+    → (lineReason m n ls claim ≡ Passes) ↔ T (lineIsRight m n ls claim)
 
 -- "without it .. q is m": for lines that are all mod m, block and reason show what they showed before
 abbrev pub PlainShown : Type 0

@@ -7,10 +7,10 @@ use Prim.Native.Nat.{ℕ, _<_}
 use lib.ListN.{length}
 use lib.Dec.{T}
 use Rattle.equations.specs.declared.Reason.{Reason}
-use Rattle.equations.specs.declared.Reason.the-variants.{Right, Solvable, Unsolvable, Breaks, Changes, Misses}
+use Rattle.equations.specs.declared.Reason.the-variants.{Passes, Solvable, Unsolvable, Breaks, Changes, Misses}
 use Rattle.equations.specs.Equation.{Equation, Shaped}
 use Rattle.equations.specs.Answer.{startOf}
-use Rattle.equations.specs.Claim.{Claim, passes}
+use Rattle.equations.specs.Claim.{Claim, isRight}
 use Rattle.equations.specs.Reasons.{reasonOf, Says, Formed}
 use Rattle.elimination.specs.Multipliers.{multipliersOf}
 use Rattle.elimination.specs.Missed.{missedOf}
@@ -24,7 +24,7 @@ startShown (some start) = start
 -- "Which solution or multipliers are shown, is free": ours are the starting vector and the multipliers of the answer, and for the
 -- last reason a vector of which `TrueReason` says all that must hold.
 abbrev pub shownFor : ℕ → ℕ → List Equation → Claim → Reason → List ℕ
-shownFor m n es claim Right = []
+shownFor m n es claim Passes = []
 shownFor m n es claim Solvable = startShown (startOf m n es)
 shownFor m n es claim Unsolvable = multipliersOf m n es
 shownFor m n es claim (Breaks equation) = []
@@ -48,4 +48,4 @@ TrueReason =
 abbrev pub NoReason : Type 0
 NoReason =
     (m n : ℕ) (es : List Equation) (claim : Claim) → 0 < m → Shaped n es → Formed m n claim
-    → (reasonOf m n es claim ≡ Right) ↔ T (passes m n es claim)
+    → (reasonOf m n es claim ≡ Passes) ↔ T (isRight m n es claim)

@@ -33,7 +33,7 @@ pub(crate) fn explain_none(m: u32, n: usize, lines: &[u32], shown: &mut [u32]) -
     let mut rows = [0u32; BASIS];
     if !solvable(m, n, lines, &mut rows) {
         return Finding {
-            reason: Reason::Right,
+            reason: Reason::Passes,
             len: 0,
         };
     }
@@ -95,7 +95,7 @@ pub(crate) fn explain_missing(
     let place = missing(m, n, basis, steps);
     if place == 0 {
         return Finding {
-            reason: Reason::Right,
+            reason: Reason::Passes,
             len: 0,
         };
     }

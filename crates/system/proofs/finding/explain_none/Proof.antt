@@ -10,7 +10,7 @@ use denote.Ref.{now}
 use lib.ListN.{length}
 use lib.Seq.{length-take-le}
 use Rattle.slices.specs.Over.{over}
-use Rattle.equations.specs.declared.Reason.the-variants.{Right, Solvable}
+use Rattle.equations.specs.declared.Reason.the-variants.{Passes, Solvable}
 use Rattle.equations.specs.Lines.{equationsOf}
 use Rattle.equations.specs.Claim.{noSolution}
 use Rattle.system.specs.Ready.{zeros-ready}
@@ -33,7 +33,7 @@ returns : tie.Need-returns
 returns c =
     let a = c .before .before .before .before .before .before .args in
     let es = equationsOf (a .n) (now (a .lines)) in
-    explained (a .m) (a .n) es noSolution Right
+    explained (a .m) (a .n) es noSolution Passes
     (reason-none (a .m) (a .n) es false (sym (not-true _ (c .if1 .taken)) ∙ c .before .before .solvable .ensures .0)) (now (a .shown)) 0 refl refl
 
 add-packed-size : tie.Need-add-packed-size

@@ -1,7 +1,7 @@
--- The answer, handed in as a claim, passes.
+-- The answer, handed in as a claim, is right.
 --   vector-of-within   coefficients within the ranges are residues
---   answer-passes      start and steps pass
---   none-passes        the claim of no solution passes where there is none
+--   answer-right      start and steps are
+--   none-right        the claim of no solution is right where there is none
 use mathlib.Core.Path.{_≡_, subst}
 use mathlib.Core.List.{List, [], _∷_}
 use mathlib.Core.Option.{none, some}
@@ -13,9 +13,9 @@ use lib.Dec.{T}
 use Rattle.equations.specs.Vectors.{Vector}
 use Rattle.equations.specs.Equation.{Equation, solves}
 use Rattle.equations.specs.Answer.{startOf, stepsOf, leading}
-use Rattle.equations.specs.Claim.{noSolution, from, describes, passes}
+use Rattle.equations.specs.Claim.{noSolution, from, describes, isRight}
 use Rattle.equations.specs.Promises.{Within}
-use Rattle.equations.proofs.Claim.{describes-nothing, describes-exists, passes-all}
+use Rattle.equations.proofs.Claim.{describes-nothing, describes-exists, right-all}
 use Rattle.equations.proofs.Answer.{start-none, answer-sound, answer-written}
 
 pub vector-of-within : (m : ℕ) (ss : List (List ℕ)) (ts : List ℕ) → Within m ss ts → Vector m (length ss) ts
@@ -25,9 +25,9 @@ vector-of-within m (s ∷ ss) [] w = absurd w
 vector-of-within m (s ∷ ss) (t ∷ ts) w =
     (omega (arith, w .0, div-le-self m (leading s)), vector-of-within m ss ts (w .1))
 
-pub answer-passes : (m n : ℕ) (es : List Equation) (c : List ℕ) → 0 < m → startOf m n es ≡ some c
-    → T (passes m n es (from c (stepsOf m n es)))
-answer-passes m n es c pos h = passes-all m n es (from c ss) .1 (λ v vec. (down v, up v vec))
+pub answer-right : (m n : ℕ) (es : List Equation) (c : List ℕ) → 0 < m → startOf m n es ≡ some c
+    → T (isRight m n es (from c (stepsOf m n es)))
+answer-right m n es c pos h = right-all m n es (from c ss) .1 (λ v vec. (down v, up v vec))
   where
     ss : List (List ℕ)
     ss = stepsOf m n es
@@ -42,7 +42,7 @@ answer-passes m n es c pos h = passes-all m n es (from c ss) .1 (λ v vec. (down
         let u = answer-written m n es c pos h v vec t in
         describes-exists m c ss v .1 (u .0, vector-of-within m ss (u .0) (u .1), u .2)
 
-pub none-passes : (m n : ℕ) (es : List Equation) → startOf m n es ≡ none → T (passes m n es noSolution)
-none-passes m n es h =
-    passes-all m n es noSolution .1
+pub none-right : (m n : ℕ) (es : List Equation) → startOf m n es ≡ none → T (isRight m n es noSolution)
+none-right m n es h =
+    right-all m n es noSolution .1
     (λ v vec. ((λ t. absurd (describes-nothing m v t)), λ t. absurd (start-none m n es .0 h v vec t)))
