@@ -1,5 +1,7 @@
 //! What the benchmarks of claims share: sheets with many solutions, claims about them that are right in a form of their own, and the
 //! clock for two calls by turns.
+#![allow(dead_code)]
+
 use crate::random::Random;
 use crate::sheet::{self, word, Sheet};
 use std::time::Instant;
@@ -18,7 +20,7 @@ pub struct Shape {
 }
 
 /// v + t·w mod m
-fn plus(m: u64, v: &[u64], t: u64, w: &[u64]) -> Vec<u64> {
+pub fn plus(m: u64, v: &[u64], t: u64, w: &[u64]) -> Vec<u64> {
     v.iter().zip(w).map(|(x, y)| (x + t * y) % m).collect()
 }
 
@@ -28,7 +30,8 @@ fn combination(m: u64, vectors: &[Vec<u64>], random: &mut Random) -> Vec<u64> {
     vectors.iter().fold(zeros, |sum, v| plus(m, &sum, random.below(m), v))
 }
 
-fn divisor(a: u64, b: u64) -> u64 {
+/// The greatest common divisor.
+pub fn divisor(a: u64, b: u64) -> u64 {
     if b == 0 {
         a
     } else {
@@ -66,7 +69,8 @@ impl Shape {
     }
 
     /// The n + 1 vectors of a right claim: any solution, and the answer's steps, each times a unit and with any multiples of all
-    /// others added. Where there are fewer than n, others follow from them.
+    /// others added. Where there are fewer than n, others follow from them, and the claim is long; it takes n of them where there is a
+    /// factor, and the claim passes.
     pub fn right_claim(self, answer: &[Vec<u64>], random: &mut Random) -> Vec<Vec<u64>> {
         let Shape { m, n, .. } = self;
         let mut steps = answer[1..].to_vec();

@@ -9,19 +9,7 @@ mod sheet;
 
 use claims::{Shape, CLAIMS, SHEETS};
 use random::Random;
-use sheet::{milebadger_mark, Sheet};
-
-extern "C" {
-    fn milebadger_reason(
-        sheet: *const Sheet,
-        words: *const u32,
-        words_len: usize,
-        at: *mut u32,
-        at_len: usize,
-        out: *mut u32,
-        out_len: usize,
-    ) -> i64;
-}
+use sheet::{milebadger_mark, milebadger_reason, Sheet};
 
 /// What the claims are.
 #[derive(Clone, Copy, PartialEq)]

@@ -1,4 +1,5 @@
 //! A sheet, and the calls on it that several benchmarks make.
+#![allow(dead_code)]
 
 /// The header's milebadger_sheet.
 #[repr(C)]
@@ -12,6 +13,15 @@ extern "C" {
     pub fn milebadger_add(sheet: *mut Sheet, words: *const u32, words_len: usize) -> i64;
     pub fn milebadger_answer(sheet: *const Sheet, out: *mut u32, out_len: usize) -> i64;
     pub fn milebadger_mark(sheet: *const Sheet, words: *const u32, words_len: usize) -> i64;
+    pub fn milebadger_reason(
+        sheet: *const Sheet,
+        words: *const u32,
+        words_len: usize,
+        at: *mut u32,
+        at_len: usize,
+        out: *mut u32,
+        out_len: usize,
+    ) -> i64;
 }
 
 pub fn word(kind: u32, number: u64) -> u32 {

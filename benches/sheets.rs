@@ -27,7 +27,7 @@ enum Call {
     StrikeLast,
     StrikeFirst,
     Answer,
-    /// Of the block that the answer writes.
+    /// Of the block that the answer writes, which passes or is long.
     Mark,
 }
 
@@ -137,11 +137,11 @@ impl Calls {
             (false, Call::Add | Call::AddText) => result == self.case.n as i64,
             (false, Call::StrikeLast | Call::StrikeFirst) => result == self.case.n as i64 - 1,
             (false, Call::Answer) => result > self.case.n as i64,
-            (false, Call::Mark) => result == 1,
+            (false, Call::Mark) => result == 1 || result == 2,
             (true, Call::Add | Call::AddText) => lines.ends_with(&format!("added {}\n", self.case.n)),
             (true, Call::StrikeLast | Call::StrikeFirst) => lines.ends_with(&format!("struck {}\n", self.case.n - 1)),
             (true, Call::Answer) => lines.contains("\nfrom "),
-            (true, Call::Mark) => lines.ends_with("\npass\n"),
+            (true, Call::Mark) => lines.ends_with("\npass\n") || lines.ends_with("\nlong\n"),
         }
     }
 

@@ -1,4 +1,4 @@
-/* A class that is marked in one call: five students about one exercise, each with a claim as it was handed in. */
+/* A class that is marked in one call: six students about one exercise, each with a claim as it was handed in. */
 #include <inttypes.h>
 #include <stdio.h>
 #include <string.h>
@@ -6,7 +6,7 @@
 #include "milebadger.h"
 
 #define UNKNOWNS 2
-#define STUDENTS 5
+#define STUDENTS 6
 #define ENTRIES 6 /* of the longest claim below */
 
 /* What a student hands in: how many vectors, a start and steps, or 0 for "no solution"; and the entries that are there. */
@@ -15,14 +15,15 @@ struct claim {
     uint32_t vectors, count, entries[ENTRIES];
 };
 
-/* Eli left an entry out. His claim is the last one: before another it would take that one's head for the entry. A workbench with a
+/* Finn left an entry out. His claim is the last one: before another it would take that one's head for the entry. A workbench with a
  * form for each vector has no such claim. */
 static const struct claim handed_in[STUDENTS] = {
     {"Ada", 2, 4, {4, 3, 3, 2}},
-    {"Ben", 2, 4, {1, 1, 0, 4}},
-    {"Cleo", 0, 0, {0}},
-    {"Dora", 2, 4, {1, 13, 3, 2}},
-    {"Eli", 3, 5, {1, 1, 3, 2, 0}},
+    {"Ben", 3, 6, {1, 1, 3, 2, 0, 4}},
+    {"Cleo", 2, 4, {1, 1, 0, 4}},
+    {"Dora", 0, 0, {0}},
+    {"Eli", 2, 4, {1, 13, 3, 2}},
+    {"Finn", 3, 5, {1, 1, 3, 2, 0}},
 };
 
 /* The words of a claim, written behind others; how many they are. */
@@ -43,7 +44,7 @@ static void show(const struct claim *claim, uint8_t byte)
     if (mark < 0)
         printf("\n    %d, refused: %s\n", byte, milebadger_sentence(mark));
     else
-        printf("\n    %d, %s\n", byte, mark == MILEBADGER_PASS ? "pass" : "fail");
+        printf("\n    %d, %s\n", byte, mark == MILEBADGER_PASS ? "pass" : mark == MILEBADGER_LONG ? "long" : "fail");
 }
 
 int main(void)

@@ -64,7 +64,7 @@ static void add_line(struct page *page, uint32_t q, uint32_t hour)
     }
 }
 
-/* A student claims an hour, and a step to others, or 0 for that hour alone. */
+/* A student claims an hour, and a step to others, or 0 for that hour alone: a claim of one step that is not 0 is never long. */
 static void mark_claim(const struct page *page, const char *student, uint32_t hour, uint32_t step)
 {
     const uint32_t vectors = step == 0 ? 1 : 2;

@@ -22,6 +22,9 @@ int main(void)
         printf("%" PRIu32 "%c", MILEBADGER_NUMBER(block[i]), i + 1 < result ? ' ' : '\n');
     if (result >= 0)
         result = milebadger_mark(&sheet, claim, 5);
-    puts(result < 0 ? milebadger_sentence(result) : result == MILEBADGER_PASS ? "pass" : "fail");
+    if (result < 0)
+        puts(milebadger_sentence(result));
+    else
+        puts(result == MILEBADGER_PASS ? "pass" : result == MILEBADGER_LONG ? "long" : "fail");
     return 0;
 }

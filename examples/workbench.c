@@ -95,7 +95,7 @@ static void show_vector(const char *what, uint32_t n, const uint32_t *entries)
     printf("\n");
 }
 
-/* Why a claim fails. */
+/* Why a claim fails, or is long. */
 static void show_reason(const struct page *page, const uint32_t *claim, size_t count)
 {
     uint32_t at[3] = {0}, shown[MILEBADGER_LONGEST_REASON];
@@ -118,6 +118,9 @@ static void show_reason(const struct page *page, const uint32_t *claim, size_t c
     case MILEBADGER_REASON_MISSED:
         show_vector("this solution is missing:", page->n, shown);
         break;
+    case MILEBADGER_REASON_SUPERFLUOUS:
+        printf("    step %" PRIu32 " is superfluous: it is a combination of the others\n", at[0]);
+        break;
     default:
         made(reason);
     }
@@ -126,7 +129,7 @@ static void show_reason(const struct page *page, const uint32_t *claim, size_t c
 static void show_mark(int64_t mark)
 {
     if (made(mark))
-        printf("    as a claim: %s\n", mark == MILEBADGER_PASS ? "pass" : "fail");
+        printf("    as a claim: %s\n", mark == MILEBADGER_PASS ? "pass" : mark == MILEBADGER_LONG ? "long" : "fail");
 }
 
 /* The hint page. The block is handed back as a claim too; where there is no solution, its head alone. */
@@ -161,7 +164,7 @@ static void mark_claim(const struct page *page, uint32_t vectors, const uint32_t
     printf("\n");
     int64_t mark = milebadger_mark(&page->sheet, words, 1 + vectors * page->n);
     show_mark(mark);
-    if (mark == MILEBADGER_FAIL)
+    if (mark == MILEBADGER_FAIL || mark == MILEBADGER_LONG)
         show_reason(page, words, 1 + vectors * page->n);
 }
 
@@ -177,6 +180,7 @@ int main(void)
     type_line(&ada, "2*x1 + 3*x2 = 5");
     show_answer(&ada);
     mark_claim(&ada, 2, (const uint32_t[]){1, 1, 3, 2}); /* one step that says what two say */
+    mark_claim(&ada, 3, (const uint32_t[]){1, 1, 0, 4, 3, 2});
     mark_claim(&ada, 2, (const uint32_t[]){1, 1, 0, 4}); /* three of the twelve */
 
     show_answer(&ben);

@@ -1,7 +1,7 @@
 /* milebadger.h: the calls of the Milebadger library, for exercises on linear equations over the residues 0..m-1.
  *
  * A workbench has a sheet for each student in its own memory. It opens the sheet, adds equations and strikes them, asks
- * for the answer, has claims marked, one at a time or a class at once, and asks why one fails. A whole program
+ * for the answer, has claims marked, one at a time or a class at once, and asks why one does not pass. A whole program
  * (x1 + 2·x2 = 0 mod 4, and the claim "0 0, and the step 2 3"):
  *
  *     #include <inttypes.h>
@@ -27,11 +27,15 @@
  *             printf("%" PRIu32 "%c", MILEBADGER_NUMBER(block[i]), i + 1 < result ? ' ' : '\n');
  *         if (result >= 0)
  *             result = milebadger_mark(&sheet, claim, 5);
- *         puts(result < 0 ? milebadger_sentence(result) : result == MILEBADGER_PASS ? "pass" : "fail");
+ *         if (result < 0)
+ *             puts(milebadger_sentence(result));
+ *         else
+ *             puts(result == MILEBADGER_PASS ? "pass" : result == MILEBADGER_LONG ? "long" : "fail");
  *         return 0;
  *     }
  *
- * It prints `3 0 0 2 1 0 2` (three vectors: the start 0 0, and the steps 2 1 and 0 2), then `pass`.
+ * It prints `3 0 0 2 1 0 2` (three vectors: the start 0 0, and the steps 2 1 and 0 2), then `pass`. The answer itself, as a
+ * claim, would be `long`: its steps lead to the same vectors, but 0 2 is twice 2 1.
  *
  * Every input has its answer: no call fails, loops or reads or writes outside the memory that it is lent.
  *
@@ -62,25 +66,27 @@
 extern "C" {
 #endif
 
-/* This header's version: 10,000 times its first number, 100 times its second and its third; 20400 is 2.4.0. The header
- * goes with its library. As long as the first number is the same, a sheet keeps its size and the calls keep their
- * arguments; a program that loads the shared library can ask for that when it starts:
+/* This header's version: 10,000 times its first number, 100 times its second and its third; 30000 is 3.0.0. The header
+ * goes with its library. As long as the first number is the same, a sheet keeps its size, and the calls keep their
+ * arguments and what their results mean; a program that loads the shared library can ask for that when it starts:
  * milebadger_version() / 10000 == MILEBADGER_VERSION / 10000. */
-#define MILEBADGER_VERSION 20400
+#define MILEBADGER_VERSION 30000
 
 /* The library's version.
  *
  * Returns  the MILEBADGER_VERSION that the library was made with. */
 uint32_t milebadger_version(void);
 
-/* Results with a name: those of a mark, the reasons why one fails, and the refusals. */
-#define MILEBADGER_PASS 1
+/* Results with a name: those of a mark, the reasons why it is no pass, and the refusals. */
 #define MILEBADGER_FAIL 0
+#define MILEBADGER_PASS 1
+#define MILEBADGER_LONG 2
 #define MILEBADGER_REASON_SOLVABLE 1
 #define MILEBADGER_REASON_UNSOLVABLE 2
 #define MILEBADGER_REASON_START 3
 #define MILEBADGER_REASON_STEP 4
 #define MILEBADGER_REASON_MISSED 5
+#define MILEBADGER_REASON_SUPERFLUOUS 6
 #define MILEBADGER_REFUSED_SHAPE (-1)
 #define MILEBADGER_REFUSED_MODULUS (-2)
 #define MILEBADGER_REFUSED_UNKNOWNS (-3)
@@ -260,7 +266,8 @@ int64_t milebadger_strike(milebadger_sheet *sheet, uint32_t place);
  * Writes   the answer block, as words; MILEBADGER_NUMBER(out[i]) reads their numbers. out[0] is HEAD(h).
  *          An h above 0 is a number of vectors of n words ENTRY(x) each, one behind the other: vector i begins at
  *          out[1 + i * n]. Vector 0 is the starting vector, the others are the steps; milebadger_solve, below, says
- *          which they are and how each solution is written with them. Such a block can be marked as a claim as it is.
+ *          which they are and how each solution is written with them. Such a block can be marked as a claim as it is; it
+ *          passes or is long, since the form of its steps is fixed and one may follow from the others.
  *          An h of 0 says that there is no solution. Behind it stands a word of kind 7 for each equation, with its
  *          multiplier: the equations so multiplied add up mod m to coefficients that are 0 and a right side that is not.
  *          An equation with a modulus q of its own has both sides multiplied by m / q first: x1 = 2 mod 3 is
@@ -271,12 +278,18 @@ int64_t milebadger_answer(const milebadger_sheet *sheet, uint32_t *out, size_t o
 
 /* Marks a claim about the equations that are held. The words are HEAD(0) for "no solution"; or HEAD(h), h at most 17,
  * and h times n words ENTRY(x): a starting vector and h - 1 steps. It describes the start plus every combination of the
- * steps with coefficients 0..m-1, and passes where these vectors are the solutions, all of them and no other. Other
- * steps than the answer's, in another order, or more than are needed, are no fault.
+ * steps with coefficients 0..m-1, and is right where these vectors are the solutions, all of them and no other. Other
+ * steps than the answer's, or in another order, are no fault.
+ *
+ * A right claim passes where no step is superfluous, and is long where one is: a step that is itself a combination of the
+ * others, the later ones too. The zero vector as a step is always superfluous, and of two equal steps both are. That fewer
+ * steps would do is no fault: mod 6, for one unknown and no equations, the steps 2 and 3 pass, since neither follows from
+ * the other. A claim that is not right fails, whatever its steps. HEAD(0), and a start alone, are never long. So a result
+ * above 0 says that the claim is right.
  *
  * Asks     Opened? If not, -4.  A head of at most 17 and h * n words behind it, of these kinds? If not, -1.
  *          All entries below m? If not, -6.
- * Returns  MILEBADGER_PASS, MILEBADGER_FAIL; or -4, -1, -6. */
+ * Returns  MILEBADGER_PASS, MILEBADGER_LONG, MILEBADGER_FAIL; or -4, -1, -6. */
 int64_t milebadger_mark(const milebadger_sheet *sheet, const uint32_t *words, size_t words_len);
 
 /* Marks the claims of a class about the equations that are held: up to 64, each as milebadger_mark marks it alone. What the
@@ -289,8 +302,9 @@ int64_t milebadger_mark(const milebadger_sheet *sheet, const uint32_t *words, si
  *
  * Asks     Opened? If not, -4.  At most 64 claims? If not, -14.
  * Needs    marks_len at least the number of claims. MILEBADGER_MOST_CLAIMS is enough for every class.
- * Writes   a byte for each claim, in their order: MILEBADGER_PASS, MILEBADGER_FAIL, or 100 plus a refusal's number, which
- *          is 1 or 6. MILEBADGER_MARK(marks[i]) is the result that milebadger_mark has for claim i alone.
+ * Writes   a byte for each claim, in their order: MILEBADGER_PASS, MILEBADGER_LONG, MILEBADGER_FAIL, or 100 plus a
+ *          refusal's number, which is 1 or 6. MILEBADGER_MARK(marks[i]) is the result that milebadger_mark has for claim
+ *          i alone.
  * Returns  how many claims there are, which may be 0; or -4, -14, -8. */
 int64_t milebadger_class(const milebadger_sheet *sheet, const uint32_t *words, size_t words_len, uint8_t *marks,
                          size_t marks_len);
@@ -299,8 +313,9 @@ int64_t milebadger_class(const milebadger_sheet *sheet, const uint32_t *words, s
  * milebadger_sentence has a sentence. The byte is evaluated twice. */
 #define MILEBADGER_MARK(byte) ((byte) < 100 ? (int64_t)(byte) : 100 - (int64_t)(byte))
 
-/* Why a claim about the equations that are held fails, for a page with hints. The words are those of milebadger_mark. Of
- * the reasons 1 to 5 the first that holds is the result, and it is true as it stands; 0 says that the claim passes.
+/* Why a claim about the equations that are held fails, or is long, for a page with hints. The words are those of
+ * milebadger_mark. Of the reasons 1 to 6 the first that holds is the result, and it is true as it stands: 1 to 5 where the
+ * claim fails, and 6 where it is long; 0 says that it passes.
  *
  *     result, its name   at[0]   at[1]      `out`            a hint page can say
  *     0                  0       0          nothing          This is right.
@@ -311,12 +326,15 @@ int64_t milebadger_class(const milebadger_sheet *sheet, const uint32_t *words, s
  *     4  STEP            step    equation   nothing          This step changes the left side of this equation.
  *     5  MISSED          0       0          a solution       Here is a solution that the start and the steps do not
  *                                                            lead to.
+ *     6  SUPERFLUOUS     step    0          nothing          This is right, but this step is a combination of the
+ *                                                            others.
  *
  * (Each name with MILEBADGER_REASON_ in front.) Steps and equations count from 1. Where there is no solution, the reason is
  * 2 for every claim but HEAD(0), whatever its start and steps are. 3 gives the first equation that the start does not
  * solve. 4 gives the first step that changes a left side, and for it the first such equation: the sum of coefficient times
  * entry of the step is not 0 mod m, or mod the equation's own modulus. The left side of a typed equation has all its
- * unknowns.
+ * unknowns. 6 gives the first superfluous step: without it the claim is still right, and it passes once every step that is
+ * so named is left out in turn.
  *
  * A solution is n words ENTRY(x), multipliers are a word of kind 7 for each equation, as in the answer, without a head: so
  * an equation with a modulus q of its own is multiplied by m / q first. The solution of 1 is the answer's starting vector.
@@ -325,13 +343,13 @@ int64_t milebadger_class(const milebadger_sheet *sheet, const uint32_t *words, s
  *
  * Asks     Opened? If not, -4.  A head of at most 17 and h * n words behind it, of these kinds? If not, -1.
  *          All entries below m? If not, -6.
- * Needs    at_len at least 3, also where the claim passes. out_len at least the number of the reason's words: for 3 and 4,
- *          and where the claim passes, 0 will do. MILEBADGER_LONGEST_REASON is enough for every reason.
+ * Needs    at_len at least 3, also where the claim passes. out_len at least the number of the reason's words: for 3, 4 and
+ *          6, and where the claim passes, 0 will do. MILEBADGER_LONGEST_REASON is enough for every reason.
  * Writes   at[0]   the step, or 0;
  *          at[1]   the equation, or 0;
  *          at[2]   how many words `out` gets, which may be 0;
  *          out     these words.
- * Returns  0 where the claim passes, a reason from 1 to 5 where it fails; or -4, -1, -6, -8. */
+ * Returns  0 where the claim passes, 6 where it is long, a reason from 1 to 5 where it fails; or -4, -1, -6, -8. */
 int64_t milebadger_reason(const milebadger_sheet *sheet, const uint32_t *words, size_t words_len, uint32_t *at,
                           size_t at_len, uint32_t *out, size_t out_len);
 
@@ -349,8 +367,8 @@ int64_t milebadger_reason(const milebadger_sheet *sheet, const uint32_t *words, 
  *                                                            first; k are then held
  *     ANSWER                              from .., step ..   the starting vector, then each step, n entries each;
  *                                         or none ..         or a multiplier for each equation
- *     HEAD(h), h times n times ENTRY(x)   pass, or fail      marks a claim: h is 0 for "no solution", or counts a
- *                                                            starting vector and its steps, 17 at most
+ *     HEAD(h), h times n times ENTRY(x)   pass, long or      marks a claim: h is 0 for "no solution", or counts a
+ *                                         fail               starting vector and its steps, 17 at most
  *     any of these, refused               refused r          nothing; r is a number of the table below
  *
  * (Each name with MILEBADGER_ in front.) Multipliers are any that refute the equations, as milebadger_answer says: check

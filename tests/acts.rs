@@ -5,7 +5,7 @@
 use crate::exercises::{self, chance, pick};
 use crate::face::{untouched, LONGEST_BLOCK};
 use crate::grammar;
-use crate::ledger::{self, Call, Ledger, Said, Solved};
+use crate::ledger::{self, Call, Ledger, Reason, Said, Solved};
 use crate::random::Random;
 use crate::reference::{Answer, System};
 use crate::sheet::{Act, Desk, Outcome, Reply};
@@ -54,6 +54,29 @@ pub fn entering(system: &System) -> Vec<Act> {
     [open(system.m, system.n as u32)].into_iter().chain(adding).collect()
 }
 
+/// What a call on this sheet says, also where all vectors cannot be tried: marks and reasons are then found by plugging in.
+fn settled(said: Said, call: &Call, before: &Ledger) -> Said {
+    let Ledger::Opened(system) = before else { return said };
+    let reason = |words: &[u32]| shown::reason(system, &ledger::vectors_in(system.n, words));
+    let mark = |said: Said, words: &[u32]| match said {
+        Said::SomeMark => match reason(words) {
+            None => Said::Passed,
+            Some(Reason::Superfluous { .. }) => Said::Long,
+            Some(_) => Said::Failed,
+        },
+        said => said,
+    };
+    match (said, call) {
+        (said, Call::Mark(words)) => mark(said, words),
+        (Said::Classed(all), Call::Class(words, _)) => {
+            let claims = ledger::claims(system.n, words);
+            Said::Classed(all.into_iter().zip(claims).map(|(said, claim)| mark(said, &claim)).collect())
+        }
+        (Said::SomeReason, Call::Reason(words, ..)) => Said::Reasoned(reason(words)),
+        (said, _) => said,
+    }
+}
+
 /// Why the reply is not that of a call which the reference answers so, where `before` is the ledger that it found.
 fn wrong_reply(act: &Act, reply: &Reply, said: &Said, before: &Ledger) -> Option<String> {
     let old = if let Act::Answer(buffer) | Act::Reason(_, _, buffer) = act { buffer.clone() } else { vec![] };
@@ -62,14 +85,14 @@ fn wrong_reply(act: &Act, reply: &Reply, said: &Said, before: &Ledger) -> Option
     let expected = match (said, reply.outcome) {
         (Said::Answered(solved), outcome) => return wrong_answer(solved, outcome, &old, &reply.buffer, before),
         (Said::Classed(said), outcome) => return wrong_marks(said, outcome, &old_marks, &reply.marks),
-        (Said::Reasoned(_) | Said::SomeReason, _) => return wrong_reason(act, said, reply, before),
+        (Said::Reasoned(reason), _) => return wrong_reason(act, *reason, reply, before),
         (Said::Opened { .. }, _) => Outcome::Holds(0),
         (Said::Added(held) | Said::Struck(held), _) => Outcome::Holds(*held),
         (Said::Passed, _) => Outcome::Pass,
+        (Said::Long, _) => Outcome::Long,
         (Said::Failed, _) => Outcome::Fail,
-        (Said::PassedOrFailed, Outcome::Pass) => Outcome::Pass,
-        (Said::PassedOrFailed, _) => Outcome::Fail,
         (Said::Refused(number), _) => Outcome::Refused(*number),
+        (Said::SomeMark | Said::SomeReason, _) => unreachable!("settled"),
     };
     let good = Reply { outcome: expected, buffer: old, marks: old_marks, at: old_at };
     (*reply != good).then(|| format!("{reply:x?} is not {good:x?}"))
@@ -103,33 +126,32 @@ fn wrong_marks(said: &[Said], outcome: Outcome, old: &[u8], marks: &[u8]) -> Opt
     Some(format!("claim {wrong} has the mark {}, where {:?} is right", marks[wrong], said[wrong]))
 }
 
-/// Why the reply to a call for a reason is wrong. Where all vectors cannot be tried, the reason is found by plugging in.
-fn wrong_reason(act: &Act, said: &Said, reply: &Reply, before: &Ledger) -> Option<String> {
+/// Why the reply to a call for a reason is wrong.
+fn wrong_reason(act: &Act, reason: Option<Reason>, reply: &Reply, before: &Ledger) -> Option<String> {
     let (Act::Reason(words, at, out), Ledger::Opened(system)) = (act, before) else { unreachable!("question 4") };
-    let vectors = ledger::vectors_in(system.n, words);
-    let reason = if let Said::Reasoned(reason) = said { *reason } else { shown::reason(system, &vectors) };
-    shown::wrong(system, &vectors, reason, at, out, reply)
+    shown::wrong(system, &ledger::vectors_in(system.n, words), reason, at, out, reply)
 }
 
-/// Why a call for a reason does not go with the mark of the same claim on a sheet with these numbers: 0 exactly where it passes, and
-/// "the questions are those of marking", then 8.
+/// Why a call for a reason does not go with the mark of the same claim on a sheet with these numbers: 0 exactly where it passes, 6
+/// where it is long, and "the questions are those of marking", then 8.
 fn wrong_verdict(numbers: &[u32], words: &[u32], outcome: Outcome) -> Result<(), String> {
     let mark = Desk::with(numbers).act(&Act::Mark(words.to_vec()))?.outcome;
     let good = match (mark, outcome) {
         (Outcome::Pass, Outcome::Reason(number)) => number == 0,
-        (Outcome::Fail, Outcome::Reason(number)) => number > 0,
-        (Outcome::Pass | Outcome::Fail, outcome) => outcome == Outcome::Refused(8),
+        (Outcome::Long, Outcome::Reason(number)) => number == 6,
+        (Outcome::Fail, Outcome::Reason(number)) => (1..=5).contains(&number),
+        (Outcome::Pass | Outcome::Long | Outcome::Fail, outcome) => outcome == Outcome::Refused(8),
         (mark, outcome) => mark == outcome,
     };
     good.then_some(()).ok_or(format!("{outcome:?} for the reason of a claim that has the mark {mark:?}"))
 }
 
-/// "A byte per claim receives 0 fail, 1 pass or the refusal number plus 100."
+/// "A byte per claim receives 0 fail, 1 pass or the refusal number plus 100", and "`long` .. 2 in the class bytes".
 fn is_mark(said: &Said, mark: u8) -> bool {
     match said {
         Said::Failed => mark == 0,
         Said::Passed => mark == 1,
-        Said::PassedOrFailed => mark == 0 || mark == 1,
+        Said::Long => mark == 2,
         Said::Refused(number) => mark as u32 == number + 100,
         _ => unreachable!("no mark says {said:?}"),
     }
@@ -141,6 +163,7 @@ pub fn marked_singly(numbers: &[u32], claims: &[Vec<u32>]) -> Result<Vec<u8>, St
     let mut byte = |claim: &Vec<u32>| match desk.act(&Act::Mark(claim.clone()))?.outcome {
         Outcome::Fail => Ok(0),
         Outcome::Pass => Ok(1),
+        Outcome::Long => Ok(2),
         Outcome::Refused(number) => Ok(100 + number as u8),
         other => Err(format!("{other:?} for a mark")),
     };
@@ -180,7 +203,7 @@ pub fn step(desk: &mut Desk, ledger: &mut Ledger, act: &Act, tally: &mut Tally) 
         Act::Reason(words, at, out) => Call::Reason(words.clone(), at.len(), out.len()),
     };
     let before = ledger.clone();
-    let said = ledger.run(&call);
+    let said = settled(ledger.run(&call), &call, &before);
     let reply = desk.act(act)?;
     if let Some(why) = wrong_reply(act, &reply, &said, &before) {
         return Err(format!("{why}, ledger {before:?}"));

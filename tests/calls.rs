@@ -324,9 +324,9 @@ fn solved(system: &System) -> Vec<u32> {
 }
 
 #[test]
-fn full_size_sheets_are_answered_soundly_and_their_own_block_passes() {
+fn full_size_sheets_are_answered_soundly_and_their_own_block_passes_or_is_long() {
     let mut random = Random::new();
-    let (mut solvable, mut unsolvable) = (0, 0);
+    let (mut solvable, mut unsolvable, mut long) = (0, 0, 0);
     for round in 0..120 {
         let system = full_size_system(&mut random, round % 3 != 0);
         let acts = [entering(&system), vec![answer(LONGEST_BLOCK), Act::MarkBlock, mark(&[])]].concat();
@@ -337,13 +337,15 @@ fn full_size_sheets_are_answered_soundly_and_their_own_block_passes() {
         assert_eq!(fitting[fitting.len() - 2..], expected, "{system:?} (seed {})", random.seed);
         let outcomes: Vec<Outcome> = replies.iter().rev().take(2).map(|reply| reply.outcome).collect();
         match outcomes[..] {
-            [Outcome::Fail, Outcome::Pass] => {
+            [Outcome::Fail, Outcome::Pass | Outcome::Long] => {
                 assert_eq!(answered(&replies[replies.len() - 3]), solved(&system), "{system:?} (seed {})", random.seed);
                 solvable += 1;
+                long += (outcomes[1] == Outcome::Long) as usize;
             }
             [Outcome::Pass, Outcome::Refused(1)] if round % 3 == 0 => unsolvable += 1,
             _ => panic!("{system:?}: {outcomes:?} (seed {})", random.seed),
         }
     }
     assert!(solvable > 60 && unsolvable > 3, "{solvable} solvable, {unsolvable} unsolvable");
+    assert!(long > 10 && solvable - long > 10, "{solvable} solvable, {long} of them long");
 }

@@ -68,7 +68,7 @@ impl Posed {
 /// What a student hands in: always the words of one claim.
 #[derive(Clone, Copy, Debug, Eq, Ord, PartialEq, PartialOrd)]
 enum Kind {
-    /// The solutions, in another form.
+    /// The solutions, in another form, which may be long.
     Right,
     /// The same, changed in one place.
     Changed,
@@ -128,14 +128,15 @@ fn handed_in(random: &mut Random, posed: &Posed, kind: Kind) -> Vec<u32> {
     }
 }
 
-/// The byte of a claim of this kind, where it is known without a look at the equations.
-fn certain(posed: &Posed, kind: Kind) -> Option<u8> {
-    match kind {
-        Kind::Right => Some(1),
-        Kind::NoSolution => Some(posed.answer.is_none() as u8),
-        Kind::Changed | Kind::Short | Kind::Any => None,
-        Kind::Flawed(Flaw::NotBelow) => Some(106),
-        Kind::Flawed(_) => Some(101),
+/// The bytes that a claim of this kind may have, as far as they are known without a look at the equations.
+fn possible(posed: &Posed, kind: Kind) -> &'static [u8] {
+    match (kind, &posed.answer) {
+        (Kind::Right | Kind::NoSolution, None) => &[1],
+        (Kind::Right, Some(_)) => &[1, 2],
+        (Kind::NoSolution, Some(_)) => &[0],
+        (Kind::Changed | Kind::Short | Kind::Any, _) => &[0, 1, 2],
+        (Kind::Flawed(Flaw::NotBelow), _) => &[106],
+        (Kind::Flawed(_), _) => &[101],
     }
 }
 
@@ -171,8 +172,8 @@ fn random_classes_get_the_bytes_of_single_marks_in_their_order() {
         let reply = posed.class(&class(&mut random, &words, bytes), random.seed);
         assert_eq!(reply.outcome, Outcome::Marked(count), "{handed_in:x?} (seed {})", random.seed);
         for ((kind, words), &byte) in handed_in.iter().zip(&reply.marks) {
-            let right = certain(&posed, *kind).unwrap_or(byte);
-            assert_eq!(byte, right, "{kind:?} {words:x?}, {:?} (seed {})", posed.system, random.seed);
+            let good = possible(&posed, *kind).contains(&byte);
+            assert!(good, "{kind:?} {words:x?}: {byte}, {:?} (seed {})", posed.system, random.seed);
             *seen.entry((*kind, byte)).or_insert(0) += 1;
             match kind {
                 Kind::Flawed(Flaw::Stray) => drop(strays.insert(ledger::kind(words[0]))),
@@ -185,8 +186,10 @@ fn random_classes_get_the_bytes_of_single_marks_in_their_order() {
     }
     for (kind, byte) in [
         (Kind::Right, 1),
+        (Kind::Right, 2),
         (Kind::Changed, 0),
         (Kind::Changed, 1),
+        (Kind::Changed, 2),
         (Kind::Short, 0),
         (Kind::NoSolution, 0),
         (Kind::NoSolution, 1),
@@ -209,11 +212,18 @@ fn classes_marked_by_hand() {
     let entries = |numbers: &[u32]| numbers.iter().map(|&x| word(ENTRY, x)).collect::<Vec<u32>>();
     let of = |h: u32, numbers: &[u32]| [head(h), entries(numbers)].concat();
     let (right, short) = (of(2, &[0, 0, 2, 3]), of(2, &[0, 0, 0, 2]));
+    let long = of(3, &[0, 0, 2, 1, 0, 2]);
     let misfit = |h: u32, numbers: &[u32]| [of(h, numbers), vec![word(MULTIPLIER, 0)]].concat();
     let mut classes: Vec<(Vec<Vec<u32>>, Vec<u8>)> = vec![
         (vec![], vec![]),
         (vec![right.clone()], vec![1]),
         (vec![short.clone()], vec![0]),
+        (vec![long.clone()], vec![2]),
+        // a class has all three, and each has its byte wherever it stands
+        (vec![long.clone(), right.clone(), short.clone(), long.clone()], vec![2, 1, 0, 2]),
+        (vec![right.clone(), long.clone(), head(0), long.clone(), of(1, &[0, 4]), right.clone()], vec![1, 2, 0, 2, 106, 1]),
+        // zeros are superfluous, and a step that is there twice; also where the set is wrong, which fails
+        (vec![of(3, &[0, 0, 2, 3, 0, 0]), of(3, &[0, 0, 2, 3, 2, 3]), of(3, &[0, 0, 0, 2, 0, 2])], vec![2, 2, 0]),
         (vec![right.clone(), short, head(0), of(1, &[0, 4]), misfit(1, &[0]), right.clone()], vec![1, 0, 0, 106, 101, 1]),
         // a head above 17 takes one word, and so does each entry behind it
         (vec![head(18), right.clone()], vec![101, 1]),
@@ -221,7 +231,7 @@ fn classes_marked_by_hand() {
         (vec![entries(&[0, 0, 0, 0]), right.clone(), entries(&[0])], vec![101, 101, 101, 101, 1, 101]),
         // 17 is none that is too large
         (vec![of(17, &[0; 34]), head(0)], vec![0, 0]),
-        (vec![of(17, &[[0, 0, 2, 3].to_vec(), vec![0; 30]].concat()), right.clone()], vec![1, 1]),
+        (vec![of(17, &[[0, 0, 2, 3].to_vec(), vec![0; 30]].concat()), right.clone()], vec![2, 1]),
         // the last claim has what remains
         (vec![head(1)], vec![101]),
         (vec![of(1, &[0])], vec![101]),
@@ -248,8 +258,8 @@ fn classes_marked_by_hand() {
     }
     // where nothing solves the equations, so say those who are right
     let mut posed = Posed::new(System::plain(2, 2, vec![vec![1, 1, 1], vec![1, 1, 0]]));
-    let claims = [head(0), of(1, &[0, 1]), head(0), of(2, &[0, 1, 1, 1]), head(0)];
-    assert_eq!(posed.marks(&mut random, &claims.concat()), [1, 0, 1, 0, 1]);
+    let claims = [head(0), of(1, &[0, 1]), head(0), of(2, &[0, 1, 1, 1]), head(0), of(3, &[0, 1, 0, 0, 0, 0])];
+    assert_eq!(posed.marks(&mut random, &claims.concat()), [1, 0, 1, 0, 1, 0]);
 }
 
 #[test]
@@ -342,7 +352,7 @@ fn a_claim_has_its_byte_wherever_it_stands() {
         moved += (0..claims.len()).filter(|&i| bytes[i] != expected[i]).count();
         bytes.iter().for_each(|&byte| *seen.entry(byte).or_insert(0) += 1);
     }
-    assert!(moved > 300 && seen.len() == 4 && seen.values().all(|&times| times > 100), "{moved} moved, {seen:?}");
+    assert!(moved > 300 && seen.len() == 5 && seen.values().all(|&times| times > 100), "{moved} moved, {seen:?}");
 }
 
 /// A word of kind 6 with the number 0.
@@ -352,6 +362,7 @@ const NOUGHT: u32 = ENTRY << 28;
 fn bytes_of(lines: &str) -> Vec<u8> {
     let byte = |line: &str| match line {
         "pass" => 1,
+        "long" => 2,
         "fail" => 0,
         _ => 100 + line.strip_prefix("refused ").expect("no mark").parse::<u8>().unwrap(),
     };
@@ -382,7 +393,7 @@ fn a_class_is_cut_as_on_the_tape() {
         assert_eq!(bytes_of(&marks.join("\n")), bytes, "{handed_in:x?} (seed {})", random.seed);
         bytes.iter().for_each(|&byte| *seen.entry(byte).or_insert(0) += 1);
     }
-    assert!(seen.len() == 4 && seen.values().all(|&times| times > 100), "{seen:?}");
+    assert!(seen.len() == 5 && seen.values().all(|&times| times > 100), "{seen:?}");
 }
 
 /// 16 dense equations in 16 unknowns whose solutions take 16 steps: each is multiplied by a divisor of m, and the right sides fit.
@@ -416,6 +427,7 @@ fn full_classes_of_claims_of_17_vectors() {
                 1 => vectors[1 + place % 16] = vec![0; 16],
                 _ => {}
             }
+            // it takes 16 steps, so that no right claim is long
             right.push(wrong > 1);
             claims.push(claim(&vectors));
         }

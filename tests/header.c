@@ -30,10 +30,11 @@ typedef char size[sizeof(milebadger_sheet) == 1164 ? 1 : -1];
 
 /* What the bytes of a class stand for. */
 typedef char passes[MILEBADGER_MARK(1) == MILEBADGER_PASS && MILEBADGER_MARK(0) == MILEBADGER_FAIL ? 1 : -1];
+typedef char superfluous[MILEBADGER_MARK(2) == MILEBADGER_LONG ? 1 : -1];
 typedef char shape[MILEBADGER_MARK(101) == MILEBADGER_REFUSED_SHAPE ? 1 : -1];
 typedef char number[MILEBADGER_MARK(106) == MILEBADGER_REFUSED_NUMBER ? 1 : -1];
 
-#if MILEBADGER_VERSION < 20400 || MILEBADGER_REFUSED_PLACE != -16 || MILEBADGER_REASON_MISSED != 5
+#if MILEBADGER_VERSION < 30000 || MILEBADGER_REFUSED_PLACE != -16 || MILEBADGER_LONG != 2 || MILEBADGER_REASON_SUPERFLUOUS != 6
 #error "names that the preprocessor cannot read"
 #endif
 
@@ -67,7 +68,8 @@ const char *sheet_later(uint32_t *out, size_t out_len)
     result += milebadger_add(&sheet, words + 2, 2) + milebadger_strike(&copy, MILEBADGER_MOST_EQUATIONS);
     result += milebadger_add_text(&sheet, lines, MILEBADGER_LONGEST_TEXT);
     result += milebadger_answer(&copy, out, out_len);
-    if (milebadger_mark(&sheet, out, out_len) == MILEBADGER_PASS)
+    const int64_t mark = milebadger_mark(&sheet, out, out_len);
+    if (mark == MILEBADGER_PASS || mark == MILEBADGER_LONG)
         return milebadger_sentence(result);
     return milebadger_sentence(MILEBADGER_FAIL);
 }
@@ -100,6 +102,7 @@ uint32_t reason_later(const milebadger_sheet *sheet, const uint32_t *claim, size
     case MILEBADGER_REASON_START:
         return at[1];
     case MILEBADGER_REASON_STEP:
+    case MILEBADGER_REASON_SUPERFLUOUS:
         return at[0];
     default:
         return MILEBADGER_LARGEST_NUMBER;
@@ -122,6 +125,7 @@ int kinds_of_results(int64_t result)
 {
     switch (result) {
     case MILEBADGER_PASS:
+    case MILEBADGER_LONG:
     case MILEBADGER_FAIL:
         return 0;
     case MILEBADGER_REFUSED_SHAPE:

@@ -192,7 +192,7 @@ pub enum Solved {
     Unknown,
 }
 
-/// Why a claim fails. "Steps and equations count from 1."
+/// Why a claim does not pass. "Steps and equations count from 1."
 #[derive(Clone, Copy, Debug, Eq, Ord, PartialEq, PartialOrd)]
 pub enum Reason {
     /// "None was claimed but here is a solution."
@@ -205,6 +205,8 @@ pub enum Reason {
     Changes { step: usize, equation: usize },
     /// "A solution that the claim does not describe."
     Misses,
+    /// "For a long claim, the number of its first superfluous step."
+    Superfluous { step: usize },
 }
 
 impl Reason {
@@ -216,15 +218,16 @@ impl Reason {
             Reason::Breaks { equation } => [3, 0, equation as u32],
             Reason::Changes { step, equation } => [4, step as u32, equation as u32],
             Reason::Misses => [5, 0, 0],
+            Reason::Superfluous { step } => [6, step as u32, 0],
         }
     }
 
-    /// "It writes words of kinds 6 and 7 as the answer does": how many.
+    /// "It writes words of kinds 6 and 7 as the answer does", and for a long claim "no words": how many.
     pub fn words(self, system: &System) -> usize {
         match self {
             Reason::Solvable | Reason::Misses => system.n,
             Reason::Unsolvable => system.equations.len(),
-            Reason::Breaks { .. } | Reason::Changes { .. } => 0,
+            Reason::Breaks { .. } | Reason::Changes { .. } | Reason::Superfluous { .. } => 0,
         }
     }
 }
@@ -240,12 +243,14 @@ pub enum Said {
     Struck(usize),
     Answered(Solved),
     Passed,
+    /// "Right but long."
+    Long,
     Failed,
     /// There are too many vectors to try.
-    PassedOrFailed,
+    SomeMark,
     /// What marking each claim singly says.
     Classed(Vec<Said>),
-    /// Why the claim fails; none where it passes.
+    /// Why the claim does not pass; none where it does.
     Reasoned(Option<Reason>),
     /// There are too many vectors to try.
     SomeReason,
@@ -412,16 +417,33 @@ pub fn block_length(system: &System) -> Option<usize> {
     }
 }
 
-/// "Pass if the described vectors are those that solve the ledger's equations, fail otherwise."
+/// Fail if the described vectors are not those that solve the ledger's equations. "Long .. where the described set is right but some
+/// step is itself a combination of the others"; pass "then means right set and no such step".
 fn mark(system: &System, words: &[u32]) -> Said {
     if !can_try(system.m, system.n) {
-        return Said::PassedOrFailed;
+        return Said::SomeMark;
     }
-    if described(system.m, &vectors_in(system.n, words)) == solutions(system) {
-        Said::Passed
-    } else {
+    let vectors = vectors_in(system.n, words);
+    if described(system.m, &vectors) != solutions(system) {
         Said::Failed
+    } else if superfluous(system.m, &vectors).is_some() {
+        Said::Long
+    } else {
+        Said::Passed
     }
+}
+
+/// The number of the first step that "is itself a combination of the others", from 1: it is among all that the other steps lead to
+/// from zeros, the later ones too. A claim without steps has none.
+pub fn superfluous(m: u32, vectors: &[Vec<u32>]) -> Option<usize> {
+    (1..vectors.len()).find(|&step| described(m, &others(vectors, step)).contains(&vectors[step]))
+}
+
+/// Zeros in the place of the start, and all steps but this one.
+pub fn others(vectors: &[Vec<u32>], step: usize) -> Vec<Vec<u32>> {
+    let mut others = reference::without(vectors, step);
+    others[0].fill(0);
+    others
 }
 
 /// The vectors of a claim: a start and steps, or none.
@@ -429,7 +451,8 @@ pub fn vectors_in(n: usize, words: &[u32]) -> Vec<Vec<u32>> {
     numbers(&words[1..]).chunks(n).map(|v| v.to_vec()).collect()
 }
 
-/// "The tool gives the first of these that holds", by trying all vectors. "A passed claim gives no reason."
+/// "The tool gives the first of these that holds", by trying all vectors; for a right claim the first superfluous step, if there is one.
+/// "A passed claim gives no reason."
 pub fn reason(system: &System, vectors: &[Vec<u32>]) -> Option<Reason> {
     let solutions = solutions(system);
     if vectors.is_empty() {
@@ -439,7 +462,9 @@ pub fn reason(system: &System, vectors: &[Vec<u32>]) -> Option<Reason> {
         return Some(Reason::Unsolvable);
     }
     let described = described(system.m, vectors);
-    fault(system, vectors).or(solutions.iter().any(|v| !described.contains(v)).then_some(Reason::Misses))
+    fault(system, vectors)
+        .or(solutions.iter().any(|v| !described.contains(v)).then_some(Reason::Misses))
+        .or_else(|| superfluous(system.m, vectors).map(|step| Reason::Superfluous { step }))
 }
 
 /// The first equation that the start breaks; else the first step that changes a left side, and for it the first equation: behind the
@@ -498,7 +523,7 @@ pub fn wrong_vectors(system: &System, vectors: &[Vec<u32>]) -> Option<String> {
 }
 
 /// Claims whose reasons were worked out by hand: m, n, the equations, the vectors; the reason's number, its step and its equation.
-pub const REASONED: [(u32, usize, &[&[i64]], &[&[u32]], [u32; 3]); 33] = [
+pub const REASONED: [(u32, usize, &[&[i64]], &[&[u32]], [u32; 3]); 72] = [
     // x + 2y = 0 mod 4
     (4, 2, &[&[1, 2, 0]], &[], [1, 0, 0]),
     (4, 2, &[&[1, 2, 0]], &[&[1, 0]], [3, 0, 1]),
@@ -506,13 +531,21 @@ pub const REASONED: [(u32, usize, &[&[i64]], &[&[u32]], [u32; 3]); 33] = [
     (4, 2, &[&[1, 2, 0]], &[&[0, 0], &[0, 2]], [5, 0, 0]),
     (4, 2, &[&[1, 2, 0]], &[&[0, 0], &[2, 3]], [0, 0, 0]),
     (4, 2, &[&[1, 2, 0]], &[&[0, 0]], [5, 0, 0]),
-    (4, 2, &[&[1, 2, 0]], &[&[2, 1], &[2, 1], &[0, 2]], [0, 0, 0]),
+    // twice 2 1 is 0 2, and three times 2 3 is 2 1; zeros, and a step that is there twice
+    (4, 2, &[&[1, 2, 0]], &[&[2, 1], &[2, 1], &[0, 2]], [6, 2, 0]),
+    (4, 2, &[&[1, 2, 0]], &[&[2, 1], &[0, 2], &[2, 1]], [6, 1, 0]),
+    (4, 2, &[&[1, 2, 0]], &[&[0, 2], &[2, 1], &[2, 3]], [6, 1, 0]),
+    (4, 2, &[&[1, 2, 0]], &[&[0, 2], &[2, 1], &[0, 0]], [6, 2, 0]),
+    (4, 2, &[&[1, 2, 0]], &[&[0, 2], &[2, 1], &[2, 1]], [6, 1, 0]),
+    (4, 2, &[&[1, 2, 0]], &[&[0, 0], &[0, 2], &[0, 2], &[0, 0]], [5, 0, 0]),
+    (4, 2, &[&[1, 2, 0]], &[&[1, 0], &[2, 1], &[2, 1]], [3, 0, 1]),
+    (4, 2, &[&[1, 2, 0]], &[&[0, 0], &[2, 1], &[2, 1], &[1, 0]], [4, 3, 1]),
     // a start that breaks it, before a step that changes it; two steps that do
     (4, 2, &[&[1, 2, 0]], &[&[1, 0], &[1, 0]], [3, 0, 1]),
     (4, 2, &[&[1, 2, 0]], &[&[0, 0], &[2, 3], &[0, 1], &[1, 0]], [4, 2, 1]),
     // a step that itself solves -3x = 2 mod 4, which is x = 2, and changes the left side
     (4, 1, &[&[-3, 2]], &[&[2], &[2]], [4, 1, 1]),
-    (4, 1, &[&[-3, 2]], &[&[2], &[0]], [0, 0, 0]),
+    (4, 1, &[&[-3, 2]], &[&[2], &[0]], [6, 1, 0]),
     // a sum of products that is a multiple of m, and not 0
     (4, 2, &[&[7, -2, 0]], &[&[0, 0], &[2, 3]], [0, 0, 0]),
     // 2x = 1 mod 4: before the start is looked at
@@ -520,6 +553,7 @@ pub const REASONED: [(u32, usize, &[&[i64]], &[&[u32]], [u32; 3]); 33] = [
     (4, 2, &[&[2, 0, 1]], &[&[0, 0]], [2, 0, 0]),
     (4, 2, &[&[2, 0, 1]], &[], [0, 0, 0]),
     (2, 2, &[&[1, 1, 1], &[1, 1, 0]], &[&[0, 1], &[1, 1]], [2, 0, 0]),
+    (2, 2, &[&[1, 1, 1], &[1, 1, 0]], &[&[0, 1], &[1, 1], &[0, 0]], [2, 0, 0]),
     // the first such equation
     (4, 2, &[&[1, 2, 0], &[2, 0, 0]], &[&[0, 0], &[2, 1], &[1, 0]], [4, 2, 1]),
     (4, 2, &[&[2, 0, 0], &[1, 2, 0]], &[&[0, 0], &[2, 1], &[2, 0]], [4, 2, 2]),
@@ -535,12 +569,50 @@ pub const REASONED: [(u32, usize, &[&[i64]], &[&[u32]], [u32; 3]); 33] = [
     (2, 1, &[], &[], [1, 0, 0]),
     (2, 1, &[], &[&[1]], [5, 0, 0]),
     (2, 1, &[], &[&[1], &[1]], [0, 0, 0]),
+    (2, 1, &[], &[&[1], &[1], &[1]], [6, 1, 0]),
+    // mod 6 with x = 5, and without equations: 2 and 3 lead everywhere, and neither leads to the other
+    (6, 1, &[&[1, 5]], &[&[5]], [0, 0, 0]),
+    (6, 1, &[&[1, 5]], &[&[5], &[0]], [6, 1, 0]),
+    (6, 1, &[], &[&[0], &[1], &[2]], [6, 2, 0]),
+    (6, 1, &[], &[&[0], &[2], &[1]], [6, 1, 0]),
+    (6, 1, &[], &[&[0], &[0], &[1]], [6, 1, 0]),
+    (6, 1, &[], &[&[0], &[1], &[1]], [6, 1, 0]),
+    (6, 1, &[], &[&[0], &[2], &[3]], [0, 0, 0]),
+    (6, 1, &[], &[&[0], &[4], &[3], &[2]], [6, 1, 0]),
+    (6, 1, &[], &[&[0], &[3], &[4], &[5]], [6, 1, 0]),
+    (6, 1, &[], &[&[0], &[2], &[4]], [5, 0, 0]),
+    // 1 follows from 2 and 3 together, and from neither alone
+    (6, 1, &[], &[&[0], &[1], &[2], &[3]], [6, 1, 0]),
+    // mod 30 any two of 6, 10 and 15 have a common divisor with 30, and all three have none
+    (30, 1, &[], &[&[7], &[6], &[10], &[15]], [0, 0, 0]),
+    (30, 1, &[], &[&[7], &[6], &[10], &[15], &[12]], [6, 1, 0]),
+    (30, 1, &[], &[&[7], &[6], &[10], &[15], &[20], &[18]], [6, 1, 0]),
+    (30, 1, &[], &[&[7], &[12], &[18], &[10], &[15]], [6, 1, 0]),
+    (30, 1, &[], &[&[7], &[6], &[10]], [5, 0, 0]),
+    (30, 1, &[], &[&[0], &[1], &[6], &[10], &[15]], [6, 1, 0]),
+    (30, 2, &[], &[&[0, 0], &[0, 1], &[6, 0], &[10, 0], &[1, 0], &[15, 0]], [6, 2, 0]),
+    // 1 1 1 is the sum of the three, and each of them is 1 1 1 less the other two
+    (3, 3, &[], &[&[0, 1, 2], &[1, 0, 0], &[0, 1, 0], &[0, 0, 1]], [0, 0, 0]),
+    (3, 3, &[], &[&[0, 1, 2], &[1, 0, 0], &[0, 1, 0], &[0, 0, 1], &[1, 1, 1]], [6, 1, 0]),
+    (3, 3, &[], &[&[0, 1, 2], &[1, 0, 0], &[0, 1, 0], &[0, 0, 1], &[0, 1, 1]], [6, 2, 0]),
+    (3, 3, &[], &[&[0, 1, 2], &[1, 0, 0], &[0, 1, 0], &[0, 0, 1], &[0, 0, 2]], [6, 3, 0]),
+    // mod 4, 2 0 follows from 1 0 and not the other way round
+    (4, 2, &[], &[&[3, 3], &[1, 0], &[0, 1], &[2, 0]], [6, 3, 0]),
+    (4, 2, &[], &[&[3, 3], &[2, 0], &[0, 1], &[1, 0]], [6, 1, 0]),
+    (4, 2, &[], &[&[3, 3], &[1, 0], &[0, 1], &[2, 1]], [6, 2, 0]),
     // 2x + 3y = 5 mod 12
     (12, 2, &[&[2, 3, 5]], &[&[1, 1], &[0, 4]], [5, 0, 0]),
-    (12, 2, &[&[2, 3, 5]], &[&[1, 1], &[0, 4], &[3, 2]], [0, 0, 0]),
+    // 8 times 3 2 is 0 4
+    (12, 2, &[&[2, 3, 5]], &[&[1, 1], &[0, 4], &[3, 2]], [6, 1, 0]),
+    (12, 2, &[&[2, 3, 5]], &[&[1, 1], &[3, 2], &[0, 4]], [6, 2, 0]),
+    (12, 2, &[&[2, 3, 5]], &[&[1, 1], &[3, 2]], [0, 0, 0]),
+    // 3 times 3 2 and 4 times it are two steps that say what it says
+    (12, 2, &[&[2, 3, 5]], &[&[1, 1], &[9, 6], &[0, 8]], [0, 0, 0]),
+    (12, 2, &[&[2, 3, 5]], &[&[1, 1], &[9, 6], &[0, 8], &[6, 0]], [6, 3, 0]),
     (12, 2, &[&[2, 3, 5]], &[&[1, 1], &[0, 4], &[3, 3]], [4, 2, 1]),
     // -x = 1 mod 65,535
     (65_535, 1, &[&[-1, 1]], &[&[65_534]], [0, 0, 0]),
+    (65_535, 1, &[&[-1, 1]], &[&[65_534], &[0]], [6, 1, 0]),
     (65_535, 1, &[&[-1, 1]], &[&[1]], [3, 0, 1]),
     (65_535, 1, &[&[-1, 1]], &[&[65_534], &[0], &[1]], [4, 2, 1]),
 ];
@@ -552,11 +624,14 @@ pub fn posed(m: u32, n: usize, equations: &[&[i64]], vectors: &[&[u32]]) -> (Sys
 }
 
 /// Claims about equations with a modulus of their own, in front of each, with reasons that were worked out by hand.
-pub const OWN_REASONED: [(u32, usize, &[(u32, &[i64])], &[&[u32]], [u32; 3]); 34] = [
+pub const OWN_REASONED: [(u32, usize, &[(u32, &[i64])], &[&[u32]], [u32; 3]); 44] = [
     // mod 3 x = 2, on a sheet mod 12: 2, 5, 8 and 11
     (12, 1, &[(3, &[1, 2])], &[], [1, 0, 0]),
     (12, 1, &[(3, &[1, 2])], &[&[2], &[3]], [0, 0, 0]),
     (12, 1, &[(3, &[1, 2])], &[&[11], &[9]], [0, 0, 0]),
+    (12, 1, &[(3, &[1, 2])], &[&[11], &[9], &[6]], [6, 2, 0]),
+    (12, 1, &[(3, &[1, 2])], &[&[5], &[6], &[9]], [6, 1, 0]),
+    (12, 1, &[(3, &[1, 2])], &[&[5], &[6], &[0]], [5, 0, 0]),
     (12, 1, &[(3, &[1, 2])], &[&[2]], [5, 0, 0]),
     (12, 1, &[(3, &[1, 2])], &[&[2], &[6]], [5, 0, 0]),
     (12, 1, &[(3, &[1, 2])], &[&[3], &[3]], [3, 0, 1]),
@@ -564,14 +639,17 @@ pub const OWN_REASONED: [(u32, usize, &[(u32, &[i64])], &[&[u32]], [u32; 3]); 34
     // and mod 4 x = 3 beside it: 11 alone
     (12, 1, &[(3, &[1, 2]), (4, &[1, 3])], &[], [1, 0, 0]),
     (12, 1, &[(3, &[1, 2]), (4, &[1, 3])], &[&[11]], [0, 0, 0]),
-    (12, 1, &[(3, &[1, 2]), (4, &[1, 3])], &[&[11], &[0]], [0, 0, 0]),
+    (12, 1, &[(3, &[1, 2]), (4, &[1, 3])], &[&[11], &[0]], [6, 1, 0]),
     (12, 1, &[(3, &[1, 2]), (4, &[1, 3])], &[&[3]], [3, 0, 1]),
     (12, 1, &[(3, &[1, 2]), (4, &[1, 3])], &[&[2], &[3]], [3, 0, 2]),
     (12, 1, &[(3, &[1, 2]), (4, &[1, 3])], &[&[11], &[4]], [4, 1, 1]),
     (12, 1, &[(3, &[1, 2]), (4, &[1, 3])], &[&[11], &[0], &[6]], [4, 2, 2]),
     // a step that is not 0 mod 12 changes nothing mod 2
     (12, 1, &[(2, &[1, 1])], &[&[1], &[2]], [0, 0, 0]),
-    (12, 1, &[(2, &[1, 1])], &[&[1], &[10], &[4]], [0, 0, 0]),
+    // 4 times 10 is 4; 4 and 6 lead to all even numbers, and neither to the other
+    (12, 1, &[(2, &[1, 1])], &[&[1], &[10], &[4]], [6, 2, 0]),
+    (12, 1, &[(2, &[1, 1])], &[&[1], &[4], &[6]], [0, 0, 0]),
+    (12, 1, &[(2, &[1, 1])], &[&[1], &[4], &[6], &[8]], [6, 1, 0]),
     (12, 1, &[(2, &[1, 1])], &[&[1], &[4]], [5, 0, 0]),
     (12, 1, &[(2, &[1, 1])], &[&[1], &[2], &[3]], [4, 2, 1]),
     // mod 3 x = 1 and x = 2
@@ -592,11 +670,16 @@ pub const OWN_REASONED: [(u32, usize, &[(u32, &[i64])], &[&[u32]], [u32; 3]); 34
     (12, 2, &[(3, &[3, -6, 1])], &[&[0, 0]], [2, 0, 0]),
     // mod 2 x + y = 1, and mod 3 x - y = 1
     (12, 2, &[(2, &[1, 1, 1]), (3, &[1, -1, 1])], &[&[1, 0], &[1, 1], &[0, 6]], [0, 0, 0]),
+    (12, 2, &[(2, &[1, 1, 1]), (3, &[1, -1, 1])], &[&[1, 0], &[6, 0], &[1, 1], &[0, 6]], [6, 1, 0]),
+    (12, 2, &[(2, &[1, 1, 1]), (3, &[1, -1, 1])], &[&[1, 0], &[1, 1], &[0, 6], &[2, 2]], [6, 3, 0]),
     (12, 2, &[(2, &[1, 1, 1]), (3, &[1, -1, 1])], &[&[1, 0], &[1, 1]], [5, 0, 0]),
     (12, 2, &[(2, &[1, 1, 1]), (3, &[1, -1, 1])], &[&[1, 0], &[1, 1], &[0, 2]], [4, 2, 2]),
     (12, 2, &[(2, &[1, 1, 1]), (3, &[1, -1, 1])], &[&[1, 0], &[1, 1], &[0, 3]], [4, 2, 1]),
     (12, 2, &[(2, &[1, 1, 1]), (3, &[1, -1, 1])], &[&[1, 2], &[1, 1], &[0, 6]], [3, 0, 2]),
     (65_535, 1, &[(255, &[1, -1])], &[&[254], &[255]], [0, 0, 0]),
+    (65_535, 1, &[(255, &[1, -1])], &[&[254], &[255], &[510]], [6, 1, 0]),
+    (65_535, 1, &[(255, &[1, -1])], &[&[254], &[255], &[765]], [6, 1, 0]),
+    (65_535, 1, &[(255, &[1, -1])], &[&[254], &[255], &[65_280]], [6, 1, 0]),
 ];
 
 /// A row of that table.

@@ -38,7 +38,7 @@ fn lines(words: &[u32]) -> String {
 #[test]
 fn the_archive_has_the_version_of_the_header() {
     assert_eq!(face::version() as usize, limit("VERSION"));
-    assert_eq!(face::version(), 20_400, "2.4.0");
+    assert_eq!(face::version(), 30_000, "3.0.0");
 }
 
 #[test]
@@ -99,14 +99,20 @@ fn a_reason_shows_as_many_words_as_the_header_says() {
 }
 
 #[test]
+fn the_header_has_the_marks_of_the_paper() {
+    assert_eq!(["FAIL", "PASS", "LONG"].map(limit), [0, 1, 2]);
+}
+
+#[test]
 fn the_header_has_the_reasons_in_the_order_of_the_paper() {
-    let names = ["SOLVABLE", "UNSOLVABLE", "START", "STEP", "MISSED"];
+    let names = ["SOLVABLE", "UNSOLVABLE", "START", "STEP", "MISSED", "SUPERFLUOUS"];
     let reasons = [
         Reason::Solvable,
         Reason::Unsolvable,
         Reason::Breaks { equation: 1 },
         Reason::Changes { step: 1, equation: 1 },
         Reason::Misses,
+        Reason::Superfluous { step: 1 },
     ];
     for (name, reason) in names.iter().zip(reasons) {
         assert_eq!(limit(&format!("REASON_{name}")) as u32, reason.numbers()[0], "{name}");

@@ -75,7 +75,7 @@ fn a_class_is_as_the_request_says() {
     }
 }
 
-/// "The reason beside a failed mark": the first that holds, where it passes, and when it is turned away.
+/// "The reason beside a failed mark": the first that holds, none where it passes, and when it is turned away.
 #[test]
 fn a_reason_is_as_the_request_says() {
     let plain = REASONED.map(|(m, n, equations, vectors, expected)| (ledger::posed(m, n, equations, vectors), expected));
@@ -83,12 +83,13 @@ fn a_reason_is_as_the_request_says() {
     for ((system, vectors), expected) in plain.into_iter().chain(own) {
         let found = ledger::reason(&system, &vectors);
         assert_eq!(found.map_or([0; 3], Reason::numbers), expected, "{system:?}: {vectors:?}");
-        // "a passed claim gives no reason", and each failed one does
-        let passes = ledger::described(system.m, &vectors) == ledger::solutions(&system);
-        assert_eq!(found.is_none(), passes, "{system:?}: {vectors:?}");
+        // "a passed claim gives no reason", each failed one does, and a long one the last
+        let right = ledger::described(system.m, &vectors) == ledger::solutions(&system);
+        assert_eq!(found.is_none() || expected[0] == 6, right, "{system:?}: {vectors:?}");
     }
     let [none, start, number, short] = [vec![], vec![vec![1, 0]], vec![vec![4, 0]], vec![vec![1]]].map(|v| ledger::claim(&v));
     let right = ledger::claim(&[vec![0, 0], vec![2, 3]]);
+    let long = ledger::claim(&[vec![0, 0], vec![2, 1], vec![0, 2]]);
     let mut sheet = opened(4, 2, &[&[1, 2, 0]]);
     for (words, at, out, said) in [
         (&none, 3, 2, Said::Reasoned(Some(Reason::Solvable))),
@@ -98,6 +99,8 @@ fn a_reason_is_as_the_request_says() {
         (&start, 2, 16, Said::Refused(8)),
         (&right, 3, 0, Said::Reasoned(None)),
         (&right, 2, 0, Said::Refused(8)),
+        (&long, 3, 0, Said::Reasoned(Some(Reason::Superfluous { step: 2 }))),
+        (&long, 2, 16, Said::Refused(8)),
         (&number, 0, 0, Said::Refused(6)),
         (&short, 0, 0, Said::Refused(1)),
     ] {
@@ -240,8 +243,51 @@ fn the_claims_of_the_paper_are_marked_as_it_says() {
     let mut sheet = opened(4, 2, &[&[1, 2, 0]]);
     assert_eq!(claimed(&mut sheet, &[&[0, 0], &[2, 3]]), Said::Passed);
     assert_eq!(claimed(&mut sheet, &[&[0, 0], &[0, 2]]), Said::Failed);
-    assert_eq!(claimed(&mut sheet, &[&[0, 0], &[2, 1], &[0, 2]]), Said::Passed);
+    assert_eq!(claimed(&mut sheet, &[&[0, 0], &[2, 1], &[0, 2]]), Said::Long);
     assert_eq!(claimed(&mut sheet, &[]), Said::Failed);
+}
+
+/// "Right but long": the values that the request has.
+#[test]
+fn a_long_claim_is_as_the_request_says() {
+    let mut sheet = opened(6, 1, &[&[1, 5]]);
+    assert_eq!(claimed(&mut sheet, &[&[5]]), Said::Passed);
+    assert_eq!(claimed(&mut sheet, &[&[5], &[0]]), Said::Long);
+    assert_eq!(claimed(&mut sheet, &[&[4], &[0]]), Said::Failed);
+    let mut sheet = opened(6, 1, &[]);
+    for (steps, said, step) in [
+        ([1, 2], Said::Long, Some(2)),
+        ([0, 1], Said::Long, Some(1)),
+        ([1, 1], Said::Long, Some(1)),
+        ([2, 3], Said::Passed, None),
+        ([2, 2], Said::Failed, Some(1)),
+    ] {
+        let vectors = [vec![0], vec![steps[0]], vec![steps[1]]];
+        assert_eq!(claimed(&mut sheet, &[&[0], &steps[..1], &steps[1..]]), said, "{steps:?}");
+        assert_eq!(ledger::superfluous(6, &vectors), step, "{steps:?}");
+    }
+    assert_eq!(claimed(&mut sheet, &[]), Said::Failed);
+}
+
+#[test]
+fn walking_from_zeros_finds_the_superfluous_steps_that_trying_every_coefficient_does() {
+    let (mut none, mut first, mut other) = (0, 0, 0);
+    // m, n, and the most steps
+    let shapes = [(2, 1, 5), (2, 2, 4), (2, 3, 3), (3, 1, 4), (3, 2, 3), (4, 1, 4), (4, 2, 2), (5, 1, 3), (6, 1, 4), (30, 1, 3)];
+    for (m, n, most) in shapes {
+        for entries in (0..=most).flat_map(|count| reference::vectors(m, count * n)) {
+            let steps: Vec<Vec<u32>> = entries.chunks(n).map(|step| step.to_vec()).collect();
+            let vectors = [vec![vec![1; n]], steps.clone()].concat();
+            let all = reference::superfluous_by_trying(m, &steps);
+            assert_eq!(ledger::superfluous(m, &vectors), all.first().copied(), "{vectors:?} mod {m}");
+            match all.first() {
+                None => none += 1,
+                Some(1) => first += 1,
+                Some(_) => other += 1,
+            }
+        }
+    }
+    assert!(none > 500 && first > 5_000 && other > 5_000, "{none} without, {first} with the first, {other} with another");
 }
 
 #[test]
@@ -295,6 +341,8 @@ fn other_lines_are_not_taken_for_those_of_the_paper() {
         ("none 1 1", "none 1 1 "),
         ("none 1 1", "none 3 1"),
         ("fail\n", "pass\n"),
+        ("fail\n", "long\n"),
+        ("pass\n", "long\n"),
         ("refused 1\n", "refused 1"),
         ("refused 1\n", "refused 1\n\n"),
         ("refused 1\n", ""),
@@ -313,7 +361,7 @@ fn prints(tape: &[u8], lines: &str) {
 
 #[test]
 fn the_tape_is_cut_into_calls_as_the_paper_says() {
-    for (words, lines) in tape::readings().into_iter().chain(tape::signed_readings()).chain(tape::own_readings()) {
+    for (words, lines) in [tape::readings(), tape::signed_readings(), tape::own_readings(), tape::long_readings()].concat() {
         prints(&tape::bytes(&words), &lines);
     }
 }

@@ -1,6 +1,6 @@
-//! The reason beside a failed mark: of those that hold the first, true as it is stated, and none exactly where the claim passes; what
-//! it shows; the questions in their order, and how long the lent memory must be. Small sheets have all their vectors tried. Large ones
-//! are made from their solutions, and reasons about them are checked by plugging in.
+//! The reason beside a mark other than a pass: of those that hold the first, true as it is stated, and none exactly where the claim
+//! passes; what it shows; the questions in their order, and how long the lent memory must be. Small sheets have all their vectors tried.
+//! Large ones are made from their solutions, and reasons about them are checked by plugging in.
 mod acts;
 mod exercises;
 mod face;
@@ -88,8 +88,10 @@ impl Posed {
 /// What a student hands in that is refused only for what is lent.
 #[derive(Clone, Copy, Debug, Eq, Ord, PartialEq, PartialOrd)]
 enum Kind {
-    /// The solutions, in another form.
+    /// The solutions, in another form, which may be long.
     Right,
+    /// The answer, where there is room with a multiple of one of its steps behind the others, or with zeros.
+    Long,
     /// "No solution."
     NoSolution,
     /// Right but for another start.
@@ -104,7 +106,8 @@ enum Kind {
     Any,
 }
 
-const KINDS: [Kind; 7] = [Kind::Right, Kind::NoSolution, Kind::Start, Kind::Step, Kind::Short, Kind::Several, Kind::Any];
+const KINDS: [Kind; 8] =
+    [Kind::Right, Kind::Long, Kind::NoSolution, Kind::Start, Kind::Step, Kind::Short, Kind::Several, Kind::Any];
 
 const FLAWS: [Flaw; 6] = [Flaw::NotBelow, Flaw::Misfit, Flaw::LargeHead, Flaw::Stray, Flaw::Cut, Flaw::Long];
 
@@ -112,6 +115,11 @@ const FLAWS: [Flaw; 6] = [Flaw::NotBelow, Flaw::Misfit, Flaw::LargeHead, Flaw::S
 fn disturb(random: &mut Random, m: u32, v: &mut [u32]) {
     let place = random.below(v.len() as u64) as usize;
     v[place] = ((v[place] as u64 + 1 + random.below(m as u64 - 1)) % m as u64) as u32;
+}
+
+/// One of the steps of a claim that has some.
+fn pick_step(random: &mut Random, vectors: &[Vec<u32>]) -> Vec<u32> {
+    vectors[1 + random.below(vectors.len() as u64 - 1) as usize].clone()
 }
 
 /// The vectors of a well-formed claim. Where nothing solves the equations, the right claim has none, and the others have any.
@@ -124,8 +132,14 @@ fn vectors(random: &mut Random, posed: &Posed, kind: Kind) -> Vec<Vec<u32>> {
             (0..=random.below(most)).map(|_| any_vector(random, m, n)).collect()
         }
         (Some(answer), Kind::Short) if chance(random, 2) => ledger::vectors_of(answer),
+        (Some(answer), Kind::Long) => ledger::vectors_of(answer),
         (Some(answer), _) => exercises::right_claim(random, m, answer),
     };
+    if kind == Kind::Long && vectors.len() < 17 {
+        let factor = any_divisor(random, m);
+        let step = if vectors.len() > 1 { times(m, factor, &pick_step(random, &vectors)) } else { vec![0; n] };
+        vectors.push(step);
+    }
     if [Kind::Start, Kind::Several].contains(&kind) {
         disturb(random, m, &mut vectors[0]);
     }
@@ -177,7 +191,7 @@ impl<T: Copy + Ord + std::fmt::Debug> Seen<T> {
 }
 
 /// What tells the reason for a claim of some vectors from one that is nearly right.
-fn tellings(posed: &Posed, vectors: &[Vec<u32>], known: Option<Reason>) -> [(&'static str, bool); 18] {
+fn tellings(posed: &Posed, vectors: &[Vec<u32>], known: Option<Reason>) -> [(&'static str, bool); 27] {
     let (system, homogeneous) = (&posed.system, posed.system.homogeneous());
     let all = 1..=system.equations.len();
     let broken = all.clone().filter(|&equation| !system.only(equation).solved_by(&vectors[0])).count();
@@ -193,6 +207,14 @@ fn tellings(posed: &Posed, vectors: &[Vec<u32>], known: Option<Reason>) -> [(&'s
     let own = |equation: usize| system.equations[equation - 1].q < system.m;
     let mixed = all.clone().any(own);
     let changes_mod_m = |step: &Vec<u32>| system.equations.iter().any(|line| line.left(step) % system.m as i128 != 0);
+    let long = shown::superfluous(system.m, vectors).is_some();
+    let zero = number == 6 && vectors[step].iter().all(|&x| x == 0);
+    let from = |from: usize, to: usize| {
+        let some = [&vec![vec![0; system.n]][..], &vectors[from..to]].concat();
+        number == 6 && shown::describes(system.m, &some, &vectors[step])
+    };
+    let (by_earlier, by_later) = (from(1, step.max(1)), from(step + 1, vectors.len()));
+    let steps = posed.answer.as_ref().map_or(0, |answer| answer.steps.len());
     [
         ("no solution, and a step changes an equation", number == 2 && changes),
         ("no solution, and no step changes an equation", number == 2 && !changes),
@@ -212,6 +234,15 @@ fn tellings(posed: &Posed, vectors: &[Vec<u32>], known: Option<Reason>) -> [(&'s
         ("a step changes an equation with a modulus of its own", number == 4 && own(equation)),
         ("a solution is missed, and an equation has a modulus of its own", number == 5 && mixed),
         ("it passes, and mod m a step would change an equation", number == 0 && vectors[1..].iter().any(changes_mod_m)),
+        ("another step than the first is superfluous", number == 6 && step > 1),
+        ("a step other than zeros is superfluous", number == 6 && !zero),
+        ("a step is superfluous by earlier ones, and not by later ones", number == 6 && by_earlier && !by_later),
+        ("a step is superfluous by later ones, and not by earlier ones", number == 6 && by_later && !by_earlier),
+        ("a step is superfluous, and an equation has a modulus of its own", number == 6 && mixed),
+        ("no solution, and a step is superfluous", number == 2 && long),
+        ("an equation is broken or changed, and a step is superfluous", [3, 4].contains(&number) && long),
+        ("a solution is missed, and a step is superfluous", number == 5 && long),
+        ("it passes with some steps", number == 0 && steps > 1 && vectors.len() > 2),
     ]
 }
 
@@ -248,11 +279,17 @@ fn each_reason_is_the_first_that_holds_and_true_and_there_is_none_where_the_clai
         why.into_iter().for_each(|(what, there)| refused.look(large, what, there));
         if !is_short {
             numbers.look(large, number, true);
-            for (sure, right) in [(Kind::Right, 0), (Kind::NoSolution, posed.answer.is_some() as u32)] {
-                assert!(kind != sure || number == right, "{kind:?} {vectors:?}, {:?} (seed {})", posed.system, random.seed);
-            }
+            let sure: &[u32] = match kind {
+                Kind::Right => &[0, 6],
+                Kind::Long if posed.answer.is_some() => &[0, 6],
+                Kind::NoSolution => &[posed.answer.is_some() as u32],
+                _ => &[number],
+            };
+            assert!(sure.contains(&number), "{kind:?} {vectors:?}, {:?} (seed {})", posed.system, random.seed);
             for made in [
                 (Kind::Right, 0),
+                (Kind::Right, 6),
+                (Kind::Long, 6),
                 (Kind::NoSolution, 0),
                 (Kind::NoSolution, 1),
                 (Kind::Start, 3),
@@ -268,7 +305,7 @@ fn each_reason_is_the_first_that_holds_and_true_and_there_is_none_where_the_clai
         }
     }
     numbers.expect(100);
-    assert_eq!(numbers.0.len(), 6, "{numbers:?}");
+    assert_eq!(numbers.0.len(), 7, "{numbers:?}");
     kinds.expect(60);
     refused.expect(100);
     telling.expect(8);
@@ -323,7 +360,7 @@ fn every_claim_about_every_tiny_sheet_gets_its_reason() {
             }
         }
     }
-    assert!(seen.len() == 6 && seen.values().all(|&times| times > 200), "{seen:?}");
+    assert!(seen.len() == 7 && seen.values().all(|&times| times > 200), "{seen:?}");
 }
 
 #[test]
@@ -380,7 +417,7 @@ fn three_numbers_of_at_and_the_words_of_the_reason_are_enough_and_less_is_not() 
             seen.look(posed.is_large(), number, true);
         }
     }
-    assert_eq!(seen.0.len(), 6, "{seen:?}");
+    assert_eq!(seen.0.len(), 7, "{seen:?}");
     seen.expect(5);
 }
 
@@ -475,6 +512,7 @@ fn full_size_claims_of_17_vectors_with_one_fault() {
         let answer = posed.answer.clone().expect("a solution");
         let right = exercises::right_claim(&mut random, m, &answer);
         assert_eq!(right.len(), 17);
+        // it takes 16 steps, so none of these follows from the others
         assert_eq!(posed.roomy(&right, random.seed).outcome, Outcome::Reason(0));
         for place in 0..17 {
             // an entry that is 1 more shows, since d times a column of the rows is not 0
@@ -515,5 +553,5 @@ fn plugging_in_finds_the_reason_that_trying_all_vectors_does() {
         assert_eq!(reason, ledger::reason(&posed.system, &vectors), "{:?}: {vectors:?} (seed {})", posed.system, random.seed);
         *seen.entry(reason.map_or(0, |reason| reason.numbers()[0])).or_insert(0) += 1;
     }
-    assert!(seen.len() == 6 && seen.values().all(|&times| times > 50), "{seen:?}");
+    assert!(seen.len() == 7 && seen.values().all(|&times| times > 50), "{seen:?}");
 }

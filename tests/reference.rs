@@ -199,6 +199,24 @@ pub fn vectors(m: u32, n: usize) -> impl Iterator<Item = Vec<u32>> {
     })
 }
 
+/// Whether v is "a combination of the others": every coefficient from 0 to m-1 is tried for each of them.
+pub fn combines(m: u32, others: &[Vec<u32>], v: &[u32]) -> bool {
+    let sum = |coefficients: &[u32], j: usize| -> u64 {
+        coefficients.iter().zip(others).map(|(&t, other)| t as u64 * other[j] as u64).sum()
+    };
+    vectors(m, others.len()).any(|coefficients| (0..v.len()).all(|j| sum(&coefficients, j) % m as u64 == v[j] as u64))
+}
+
+/// Everything but this one, in order.
+pub fn without<T: Clone>(all: &[T], place: usize) -> Vec<T> {
+    all.iter().enumerate().filter(|(i, _)| *i != place).map(|(_, one)| one.clone()).collect()
+}
+
+/// "Some step is itself a combination of the others": the numbers of all such steps, from 1.
+pub fn superfluous_by_trying(m: u32, steps: &[Vec<u32>]) -> Vec<usize> {
+    (0..steps.len()).filter(|&i| combines(m, &without(steps, i), &steps[i])).map(|i| i + 1).collect()
+}
+
 /// The answer to a list of equations where there is a solution.
 #[derive(Clone, Debug, PartialEq)]
 pub struct Answer {

@@ -1,5 +1,5 @@
 /* milebadger_sentence: every refusal has a sentence of its own, also where a byte of a class stands for it, every other result one of
- * two. A reason for a failed mark is no refusal. */
+ * two. A long claim, and a reason why a claim does not pass, are no refusals. */
 #include <stdio.h>
 #include <string.h>
 
@@ -19,10 +19,10 @@ int main(void)
         MILEBADGER_REFUSED_LEFT_OVER, MILEBADGER_REFUSED_TAPE, MILEBADGER_REFUSED_TEXT, MILEBADGER_REFUSED_BEYOND,
         MILEBADGER_REFUSED_NOT_LINEAR, MILEBADGER_REFUSED_CLAIMS, MILEBADGER_REFUSED_OWN_MODULUS, MILEBADGER_REFUSED_PLACE,
     };
-    const int64_t made[] = {MILEBADGER_FAIL, MILEBADGER_PASS, 16, INT64_MAX}, none[] = {-17, -18, INT64_MIN};
+    const int64_t made[] = {MILEBADGER_FAIL, MILEBADGER_PASS, MILEBADGER_LONG, 16, INT64_MAX}, none[] = {-17, -18, INT64_MIN};
     const int64_t reasons[] = {
         MILEBADGER_REASON_SOLVABLE, MILEBADGER_REASON_UNSOLVABLE, MILEBADGER_REASON_START, MILEBADGER_REASON_STEP,
-        MILEBADGER_REASON_MISSED,
+        MILEBADGER_REASON_MISSED, MILEBADGER_REASON_SUPERFLUOUS,
     };
     const char *sentence[16];
 
@@ -34,14 +34,14 @@ int main(void)
             if (strcmp(sentence[i], sentence[j]) == 0)
                 return fault(refused[i], sentence[i]);
     }
-    for (int i = 0; i < 4; i++)
+    for (int i = 0; i < 5; i++)
         if (strcmp(milebadger_sentence(made[i]), "done") != 0)
             return fault(made[i], milebadger_sentence(made[i]));
-    for (int i = 0; i < 5; i++)
+    for (int i = 0; i < 6; i++)
         if (reasons[i] != i + 1 || strcmp(milebadger_sentence(reasons[i]), "done") != 0)
             return fault(reasons[i], "no reason, or in another place");
-    for (uint8_t byte = MILEBADGER_FAIL; byte <= MILEBADGER_PASS; byte++)
-        if (MILEBADGER_MARK(byte) != byte)
+    for (uint8_t byte = MILEBADGER_FAIL; byte <= MILEBADGER_LONG; byte++)
+        if (made[byte] != byte || MILEBADGER_MARK(byte) != byte)
             return fault(MILEBADGER_MARK(byte), "a mark of another byte");
     for (int i = 0; i < 3; i++)
         if (strcmp(milebadger_sentence(none[i]), "no result of this library") != 0)

@@ -1,5 +1,5 @@
 """The package's shared library, called from Python: a fresh sheet, each call on it, refusals that keep every byte, numbers with a
-sign, equations with a modulus of their own, threads that share a sheet, the version.
+sign, claims that are long, equations with a modulus of their own, threads that share a sheet, the version.
 
 usage: tests/shared.py LIBRARY HEADER
 """
@@ -108,7 +108,8 @@ refused(-8, "answer", out, 6)
 same(lend("answer", out), 7)
 same(out[:7], block(3, 0, 0, 2, 1, 0, 2)[:])
 same(out[7:], [0xC0DEC0DE] * 266)
-same(call("mark", out, 7), 1)
+# the answer is right but long: 0 2 is twice 2 1
+same(call("mark", out, 7), 2)
 same(lend("mark", block(2, 0, 0, 2, 3)), 1)
 same(lend("mark", block(2, 0, 0, 0, 2)), 0)
 refused(-1, "mark", block(2, 0, 0, 0), 4)
@@ -116,17 +117,18 @@ refused(-1, "mark", block(1, 0, 0, kind=MINUS_RIGHT), 3)
 refused(-6, "mark", block(1, 0, 4), 3)
 
 # Those claims as a class: one byte each, and the bytes past them are kept. A stray word, and a claim that breaks off, are claims too.
-claims = [block(2, 0, 0, 2, 3), block(2, 0, 0, 0, 2), block(1, 0, 4), words((ENTRY, 0)), words((HEAD, 0)), block(2, 0, 0, 0)]
+claims = [block(2, 0, 0, 2, 3), block(2, 0, 0, 0, 2), block(1, 0, 4), words((ENTRY, 0)), words((HEAD, 0))]
+claims += [block(3, 0, 0, 0, 2, 2, 1), block(2, 0, 0, 0)]
 together = (ctypes.c_uint32 * sum(map(len, claims)))(*(word for claim in claims for word in claim))
-marks = (ctypes.c_uint8 * 8)(*[0xC0] * 8)
-refused(-8, "class", together, len(together), marks, 5)
-same(call("class", together, len(together), marks, 6), 6)
-same(marks[:], [1, 0, 106, 101, 0, 101, 0xC0, 0xC0])
+marks = (ctypes.c_uint8 * 9)(*[0xC0] * 9)
+refused(-8, "class", together, len(together), marks, 6)
+same(call("class", together, len(together), marks, 7), 7)
+same(marks[:], [1, 0, 106, 101, 0, 2, 101, 0xC0, 0xC0])
 singly = [lend("mark", claim) for claim in claims]
-same(marks[:6], [mark if mark >= 0 else 100 - mark for mark in singly])
-refused(-14, "class", words(*[(HEAD, 0)] * 65), 65, marks, 8)
+same(marks[:7], [mark if mark >= 0 else 100 - mark for mark in singly])
+refused(-14, "class", words(*[(HEAD, 0)] * 65), 65, marks, 9)
 same(call("class", words(), 0, marks, 0), 0)
-same(marks[:], [1, 0, 106, 101, 0, 101, 0xC0, 0xC0])
+same(marks[:], [1, 0, 106, 101, 0, 2, 101, 0xC0, 0xC0])
 
 
 def reason(*numbers):
@@ -137,11 +139,14 @@ def reason(*numbers):
     return result, at[0], at[1], [(word >> 28, word & 0xFFFFFFF) for word in shown[: at[2]]]
 
 
-# Why claims about the sheet fail, and a claim that passes. From 0 0 the step 0 2 leads to two of four solutions.
+# Why claims about the sheet fail or are long, and a claim that passes. From 0 0 the step 0 2 leads to two of four solutions.
 same(reason(0), (1, 0, 0, [(ENTRY, 0), (ENTRY, 0)]))
 same(reason(1, 1, 0), (3, 0, 1, []))
 same(reason(3, 0, 0, 2, 1, 1, 0), (4, 2, 1, []))
 same(reason(2, 0, 0, 2, 3), (0, 0, 0, []))
+same(reason(3, 0, 0, 2, 1, 0, 2), (6, 2, 0, []))
+same(reason(3, 0, 0, 0, 2, 2, 1), (6, 1, 0, []))
+same(reason(4, 0, 0, 0, 0, 2, 3, 2, 3), (6, 1, 0, []))
 missed = reason(2, 0, 0, 0, 2)
 same((missed[:3], missed[3] in ([(ENTRY, 2), (ENTRY, 1)], [(ENTRY, 2), (ENTRY, 3)])), ((5, 0, 0), True))
 at, shown = (ctypes.c_uint32 * 3)(7, 7, 7), (ctypes.c_uint32 * 2)(8, 8)
@@ -151,9 +156,12 @@ refused(-8, "reason", block(0), 1, at, 3, shown, 1)
 refused(-8, "reason", block(2, 0, 0, 2, 3), 5, at, 2, shown, 2)
 same(call("reason", block(1, 1, 0), 3, at, 3, shown, 0), 3)
 same((at[:], shown[:]), ([0, 1, 0], [8, 8]))
+same(call("reason", block(3, 0, 0, 2, 1, 0, 2), 7, at, 3, shown, 0), 6)
+same((at[:], shown[:]), ([2, 0, 0], [8, 8]))
+refused(-8, "reason", block(3, 0, 0, 2, 1, 0, 2), 7, at, 2, shown, 2)
 
 # Threads that ask for reasons on one sheet at the same time, each with memory of its own.
-asked = [(0,), (1, 1, 0), (3, 0, 0, 2, 1, 1, 0), (2, 0, 0, 0, 2), (2, 0, 0, 2, 3)]
+asked = [(0,), (1, 1, 0), (3, 0, 0, 2, 1, 1, 0), (2, 0, 0, 0, 2), (2, 0, 0, 2, 3), (3, 0, 0, 2, 1, 0, 2)]
 expected, before, seen = [reason(*numbers) for numbers in asked], bytes(sheet), []
 
 
@@ -215,7 +223,8 @@ same(out[:3], block(2, 2, 3)[:])
 same(lend("add", own(4, 1, -1)), 2)
 same(lend("answer", out), 2)
 same(out[:2], block(1, 11)[:])
-same([lend("mark", block(1, 11)), lend("mark", block(2, 2, 3))], [1, 0])
+same([lend("mark", block(1, 11)), lend("mark", block(2, 2, 3)), lend("mark", block(2, 11, 0))], [1, 0, 2])
+same(reason(2, 11, 0), (6, 1, 0, []))
 same(reason(1, 8), (3, 0, 2, []))
 same(reason(2, 11, 6), (4, 1, 2, []))
 # x = 1 mod 3 contradicts the first line; the multipliers go with 4x = 8, 3x = 9 and 4x = 4
@@ -242,6 +251,13 @@ while lend("add", own(2, 1, 1)) != 16:
     pass
 refused(-5, "add", own(2, 1, 1), 3)
 refused(-15, "add", own(5, 1, 1), 3)
+
+# Mod 6 without equations: which steps are superfluous, of two. 2 and 3 are not, though 1 alone would do.
+sheet = Sheet()
+same(lend("open", words((MODULUS, 6), (UNKNOWNS, 1))), 0)
+for (first, second), (mark, step) in {(1, 2): (2, 2), (0, 1): (2, 1), (1, 1): (2, 1), (2, 3): (1, 0), (2, 4): (0, 0)}.items():
+    same(lend("mark", block(3, 0, first, second)), mark)
+    same(reason(3, 0, first, second)[:3], ({0: 5, 1: 0, 2: 6}[mark], step, 0))
 
 # -1·t = 1 mod 65,535; and t = b, whose least solution is the residue of b.
 pair = (ctypes.c_uint32 * 2)()

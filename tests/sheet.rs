@@ -64,6 +64,7 @@ pub enum Outcome {
     Holds(usize),
     Wrote(usize),
     Pass,
+    Long,
     Fail,
     /// So many claims of a class.
     Marked(usize),
@@ -89,9 +90,10 @@ fn read(act: &Act, result: i64) -> Option<Outcome> {
         (Act::Add(_) | Act::AddText(_) | Act::Strike(_), 0..=16) => Some(Outcome::Holds(result as usize)),
         (Act::Answer(buffer), 1..) if result <= buffer.len() as i64 => Some(Outcome::Wrote(result as usize)),
         (Act::Mark(_) | Act::MarkBlock, 1) => Some(Outcome::Pass),
+        (Act::Mark(_) | Act::MarkBlock, 2) => Some(Outcome::Long),
         (Act::Mark(_) | Act::MarkBlock, 0) => Some(Outcome::Fail),
         (Act::Class(_, marks), 0..) if result <= marks.len() as i64 => Some(Outcome::Marked(result as usize)),
-        (Act::Reason(..), 0..=5) => Some(Outcome::Reason(result as u32)),
+        (Act::Reason(..), 0..=6) => Some(Outcome::Reason(result as u32)),
         _ => None,
     }
 }

@@ -38,6 +38,11 @@ pub fn describes(m: u32, vectors: &[Vec<u32>], v: &[u32]) -> bool {
     }
 }
 
+/// The number of the first step that is a combination of the others, from 1: coefficients show it, or multipliers that it is none.
+pub fn superfluous(m: u32, vectors: &[Vec<u32>]) -> Option<usize> {
+    (1..vectors.len()).find(|&step| describes(m, &ledger::others(vectors, step), &vectors[step]))
+}
+
 /// The reason for a claim about equations with this answer, a start and steps that lead to all solutions; or with none. Nothing is
 /// missed where the claim describes the start and what is one step away from it, and so all.
 pub fn reason_given(system: &System, answer: Option<&Answer>, vectors: &[Vec<u32>]) -> Option<Reason> {
@@ -45,7 +50,9 @@ pub fn reason_given(system: &System, answer: Option<&Answer>, vectors: &[Vec<u32
     if vectors.is_empty() {
         return Some(Reason::Solvable);
     }
-    ledger::fault(system, vectors).or_else(|| misses(system.m, answer, vectors).then_some(Reason::Misses))
+    ledger::fault(system, vectors)
+        .or_else(|| misses(system.m, answer, vectors).then_some(Reason::Misses))
+        .or_else(|| superfluous(system.m, vectors).map(|step| Reason::Superfluous { step }))
 }
 
 /// Whether the claim does not describe all that the answer does.
@@ -99,7 +106,7 @@ fn is_shown(system: &System, vectors: &[Vec<u32>], reason: Reason, words: &[u32]
         Reason::Solvable if few => all(ENTRY) && ledger::solutions(system).first() == Some(&numbers),
         Reason::Solvable => all(ENTRY) && solved(system).is_some_and(|answer| answer.start == numbers),
         Reason::Unsolvable => all(MULTIPLIER) && system.refuted_by(&numbers),
-        Reason::Breaks { .. } | Reason::Changes { .. } => words.is_empty(),
+        Reason::Breaks { .. } | Reason::Changes { .. } | Reason::Superfluous { .. } => words.is_empty(),
         Reason::Misses if few => {
             all(ENTRY) && system.solved_by(&numbers) && !ledger::described(system.m, vectors).contains(&numbers)
         }

@@ -82,9 +82,10 @@ pub fn lines(said: &Said) -> Option<String> {
             line("from", &answer.start) + &steps
         }
         Said::Passed => line("pass", &[]),
+        Said::Long => line("long", &[]),
         Said::Failed => line("fail", &[]),
         Said::Refused(number) => line("refused", &[*number]),
-        Said::Answered(Solved::Nothing | Solved::Unknown) | Said::PassedOrFailed => return None,
+        Said::Answered(Solved::Nothing | Solved::Unknown) | Said::SomeMark => return None,
         Said::Classed(_) | Said::Reasoned(_) | Said::SomeReason => unreachable!("no call on tape"),
     })
 }
@@ -106,7 +107,7 @@ pub fn wrong_lines(tape: &[u8], printed: &[u8]) -> Option<String> {
     };
     let played = play(tape);
     for (place, (call, said, before)) in played.calls.iter().enumerate() {
-        match printed_by(said, before, rest) {
+        match printed_by(call, said, before, rest) {
             Some(length) => rest = &rest[length..],
             None => return Some(format!("call {place}, {call:?} on {before:?}: {said:?} expected at {rest:?}")),
         }
@@ -116,15 +117,19 @@ pub fn wrong_lines(tape: &[u8], printed: &[u8]) -> Option<String> {
 }
 
 /// How many bytes at the front of the text are the lines of a call that says this; None where they are not its lines.
-fn printed_by(said: &Said, before: &Ledger, text: &str) -> Option<usize> {
+fn printed_by(call: &Call, said: &Said, before: &Ledger, text: &str) -> Option<usize> {
     if let Some(expected) = lines(said) {
         return text.starts_with(&expected).then_some(expected.len());
     }
     let Ledger::Opened(system) = before else { unreachable!("question 4") };
     let first = text.split_inclusive('\n').next()?;
-    match said {
-        Said::PassedOrFailed => (first == "pass\n" || first == "fail\n").then_some(first.len()),
-        Said::Answered(Solved::Nothing) => system.refuted_by(&read_line("none", first)?).then_some(first.len()),
+    match (said, call) {
+        (Said::SomeMark, Call::Mark(words)) => {
+            // a claim without steps has none that is superfluous
+            let long = first == "long\n" && number(words[0]) > 1;
+            (first == "pass\n" || first == "fail\n" || long).then_some(first.len())
+        }
+        (Said::Answered(Solved::Nothing), _) => system.refuted_by(&read_line("none", first)?).then_some(first.len()),
         _ if first.starts_with("none") => system.refuted_by(&read_line("none", first)?).then_some(first.len()),
         _ => {
             let mut vectors = vec![read_line("from", first)?];
@@ -360,6 +365,68 @@ pub fn struck_readings() -> Vec<(Vec<u32>, String)> {
         none(&[0x8000_0001], "struck 2\nfrom 1 1\n"),
         none(&[0x8000_0002], "struck 2\nnone 1 1\n"),
         none(&[0x8000_0003], "struck 2\nfrom 0 1\n"),
+    ]
+}
+
+/// Tapes with claims that are right but long, and with some that are not, with their lines.
+pub fn long_readings() -> Vec<(Vec<u32>, String)> {
+    let played = |opening: Vec<u32>, equations: &[Vec<u32>], claims: &[(&[&[u32]], &str)]| {
+        let opened = format!("open {} {}\n", number(opening[0]), number(opening[1]));
+        let added: String = (1..=equations.len()).map(|held| format!("added {held}\n")).collect();
+        let marked = |vectors: &[&[u32]]| ledger::claim(&vectors.iter().map(|v| v.to_vec()).collect::<Vec<Vec<u32>>>());
+        let words: Vec<u32> = claims.iter().flat_map(|(vectors, _)| marked(vectors)).collect();
+        let lines: String = claims.iter().map(|(_, said)| line(said, &[])).collect();
+        ([&opening[..], &equations.concat(), &words].concat(), opened + &added + &lines)
+    };
+    vec![
+        // x + 2y = 0 mod 4: twice 2 1 is 0 2
+        played(
+            ledger::opening(4, 2),
+            &[ledger::equation(&[1, 2, 0])],
+            &[
+                (&[&[0, 0], &[2, 1], &[0, 2]], "long"),
+                (&[&[0, 0], &[0, 2], &[2, 1]], "long"),
+                (&[&[0, 0], &[2, 1]], "pass"),
+                (&[&[0, 0], &[2, 3]], "pass"),
+                (&[&[2, 1], &[2, 3], &[0, 0]], "long"),
+                (&[&[0, 0], &[0, 2], &[0, 2]], "fail"),
+                (&[&[1, 0], &[2, 3], &[0, 0]], "fail"),
+                (&[], "fail"),
+                (&[&[0, 0]], "fail"),
+            ],
+        ),
+        // x = 5 mod 6
+        played(
+            ledger::opening(6, 1),
+            &[ledger::equation(&[1, 5])],
+            &[(&[&[5]], "pass"), (&[&[5], &[0]], "long"), (&[&[5], &[0], &[0]], "long"), (&[&[4], &[0]], "fail"), (&[], "fail")],
+        ),
+        // no equations mod 6
+        played(
+            ledger::opening(6, 1),
+            &[],
+            &[
+                (&[&[0], &[1], &[2]], "long"),
+                (&[&[0], &[0], &[1]], "long"),
+                (&[&[0], &[1], &[1]], "long"),
+                (&[&[0], &[2], &[3]], "pass"),
+                (&[&[0], &[1]], "pass"),
+                (&[&[0], &[2], &[3], &[4]], "long"),
+                (&[&[0], &[2], &[4]], "fail"),
+            ],
+        ),
+        // x = 1 mod 2 on a sheet mod 12: 4 and 6 lead to all even numbers, and neither to the other
+        played(
+            ledger::opening(12, 1),
+            &[ledger::own_equation(2, &[1, 1])],
+            &[(&[&[1], &[4], &[6]], "pass"), (&[&[1], &[10], &[4]], "long"), (&[&[1], &[4], &[8]], "fail")],
+        ),
+        // mod 2 x = 0 and x = 1: no claim but one is right
+        played(
+            ledger::opening(2, 1),
+            &[ledger::equation(&[1, 0]), ledger::equation(&[1, 1])],
+            &[(&[], "pass"), (&[&[0], &[0]], "fail"), (&[&[0]], "fail")],
+        ),
     ]
 }
 

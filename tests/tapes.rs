@@ -155,7 +155,7 @@ fn exercises_print_their_lines_and_every_call_meets_its_refusals() {
             *seen.entry(line.split(' ').next().unwrap().to_string()).or_insert(0) += 1;
         }
     }
-    assert!(seen.len() == 9 && seen.values().all(|&times| times > 1_000), "{seen:?}");
+    assert!(seen.len() == 10 && seen.values().all(|&times| times > 1_000), "{seen:?}");
     assert!(signs > 10_000 && own > 10_000, "{signs} minus signs, {own} equations with a modulus of their own");
     let all: Tally = REFUSALS.iter().flat_map(|(name, numbers)| numbers.iter().map(|&number| (*name, number))).collect();
     assert_eq!(tally, all, "refusals seen, and refusals to be seen");
@@ -215,7 +215,7 @@ fn random_words_and_random_bytes_print_their_lines() {
 
 #[test]
 fn a_tape_is_cut_into_calls_as_the_paper_says() {
-    let all = [tape::readings(), tape::signed_readings(), tape::own_readings(), tape::struck_readings()];
+    let all = [tape::readings(), tape::signed_readings(), tape::own_readings(), tape::struck_readings(), tape::long_readings()];
     for (words, lines) in all.concat() {
         assert_eq!(expect(&tape::bytes(&words), 0, &mut Tally::new()), lines, "{words:x?}");
     }
@@ -338,9 +338,9 @@ fn last_answer(lines: &str) -> Option<Vec<Vec<u32>>> {
 }
 
 #[test]
-fn an_answer_that_was_printed_passes_as_a_claim_on_the_same_tape() {
+fn an_answer_that_was_printed_passes_or_is_long_as_a_claim_on_the_same_tape() {
     let mut random = Random::new();
-    let (mut passed, mut none) = (0, 0);
+    let (mut passed, mut long, mut none) = (0, 0, 0);
     for round in 0..300 {
         let large = round % 3 == 0;
         let (m, n) =
@@ -360,8 +360,12 @@ fn an_answer_that_was_printed_passes_as_a_claim_on_the_same_tape() {
         let claim = last_answer(&lines).unwrap_or_default();
         words.extend(ledger::claim(&claim));
         let longer = expect(&tape::bytes(&words), random.seed, &mut Tally::new());
-        assert_eq!(longer, lines + "pass\n", "{words:x?} (seed {})", random.seed);
-        *(if claim.is_empty() { &mut none } else { &mut passed }) += 1;
+        match longer.strip_prefix(&lines) {
+            Some("pass\n") if claim.is_empty() => none += 1,
+            Some("pass\n") => passed += 1,
+            Some("long\n") => long += 1,
+            other => panic!("{words:x?}: {other:?} (seed {})", random.seed),
+        }
     }
-    assert!(passed > 150 && none > 30, "{passed} passed, {none} without solution");
+    assert!(passed > 50 && long > 20 && none > 30, "{passed} passed, {long} long, {none} without solution");
 }

@@ -8,7 +8,7 @@ use mathlib.Core.Logic.{_⊎_, inl, inr}
 use mathlib.Core.List.{List, [], _∷_}
 use mathlib.Core.Option.{none, some}
 use Prim.Native.Nat.{ℕ, suc, _+_, _*_, _/_, _<_}
-use native.Mathlib.Nat.{one-mul, div-eq-of-eq-mul-right}
+use native.Mathlib.Nat.{one-mul}
 use native.Mathlib.Omega.{arith}
 use lib.ListN.{length, drop, length-drop, drop-of-length-le}
 use Rattle.residue.specs.Congruent.{Congruent}
@@ -20,7 +20,7 @@ use Rattle.equations.proofs.Dot.{dot-nil}
 use Rattle.elimination.specs.Basis.{pivot}
 use Rattle.elimination.specs.Tableau.{tableau, tableauStart, tableauStep}
 use Rattle.elimination.proofs.Zeros.{Sat}
-use Rattle.elimination.proofs.Row.{RowAt, row-at}
+use Rattle.elimination.proofs.Row.{RowAt, row-at, row-quotient}
 use Rattle.elimination.proofs.Tableau.{length-tableau, good-tableau}
 use Rattle.elimination.proofs.Start.{start-first, start-none}
 use Rattle.elimination.proofs.Steps.{step-first, step-none}
@@ -73,7 +73,7 @@ module _ (m n k : ℕ) (es : List Equation) (pos : 0 < m) (shaped : Shaped n es)
         go : RowAt m k i (tableau m n k es)
             → stepAt m n es j ≡ some (tableauStep m i j (tableau m n k es) (m / pivot i (tableau m n k es)))
         go a =
-            rw (a .pivot-is, div-eq-of-eq-mul-right (factor-positive m (a .d) (a .e) (a .factor) pos) (a .factor))
+            rw (row-quotient m k i (tableau m n k es) pos a)
             (step-first m n k es pos shaped i j places (a .d) (a .e) (a .r) (a .rest) (a .here) (a .factor)
             (cofactor-below m (a .d) (a .e) pos (a .factor) (omega (arith, a .pivot-is))))
 

@@ -27,3 +27,10 @@ pub mod Described
 pub mod Agree
 pub mod Marking
 pub mod Missed
+pub mod Transposed
+pub mod Divisor
+pub mod Generators
+pub mod Relations
+pub mod LeftOut
+pub mod Free
+pub mod Promises

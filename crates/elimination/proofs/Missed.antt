@@ -12,8 +12,8 @@ use mathlib.Core.Path.{_≡_, refl, sym, ap, ap₂, _∙_, subst}
 use mathlib.Core.Logic.{_⊎_, inl, inr}
 use mathlib.Core.List.{List}
 use mathlib.Core.Bool.{Bool, true, false, _&&_}
-use Prim.Native.Nat.{ℕ, zero, suc, _+_, _-_, _*_, _/_, _<_, _≤_}
-use native.Mathlib.Nat.{one-mul, div-eq-of-eq-mul-right}
+use Prim.Native.Nat.{ℕ, zero, suc, _+_, _-_, _*_, _<_, _≤_}
+use native.Mathlib.Nat.{one-mul}
 use native.Mathlib.Omega.{arith}
 use lib.ListN.{length}
 use lib.Dec.{T, eqb}
@@ -34,7 +34,7 @@ use Rattle.elimination.specs.Marking.{agreeFor, agree, claimRight}
 use Rattle.elimination.specs.Missed.{apartFor, apart, shiftedAt, missedOf}
 use Rattle.elimination.specs.Missed.Step.{missed-step}
 use Rattle.elimination.proofs.Basis.{All, Long, long-vectors}
-use Rattle.elimination.proofs.Row.{RowAt}
+use Rattle.elimination.proofs.Row.{RowAt, row-quotient}
 use Rattle.elimination.proofs.Steps.{step-solves, step-length}
 use Rattle.elimination.proofs.Answer.{row-of}
 use Rattle.elimination.proofs.Span.{Span, span-in}
@@ -144,11 +144,6 @@ module _ (m n : ℕ) (es : List Equation) (c : List ℕ) (ss : List (List ℕ)) 
           (span-of-described m n c pos vec ss long g length-g (describes-exists m c ss (combine m 1 1 c g) .0 t)),
     )
 
-    quotient : m / pivot i B ≡ row .e
-    quotient =
-        ap (λ (d : ℕ). m / d) (row .pivot-is)
-        ∙ div-eq-of-eq-mul-right (factor-positive m (row .d) (row .e) (row .factor) pos) (row .factor)
-
   -- at the place apart, if there is one
   module _ (wrong : agree m n (tableau m n 0 es) (basis m n 0 ss) ≡ false) where
     abbrev p : ℕ
@@ -179,7 +174,7 @@ module _ (m n : ℕ) (es : List Equation) (c : List ℕ) (ss : List (List ℕ)) 
             made =
                 missed-step m n es c ss ∙ ap (shiftedAt m n B c) e
                 ∙ ap (λ (e : ℕ). combine m 1 1 c (tableauStep m (n - suc j) j B e))
-                (quotient j (n - suc j) (omega arith) row)
+                (row-quotient m 0 (n - suc j) B pos row)
 
 -- ---- the laws
 

@@ -1,11 +1,13 @@
 -- Row i of a good basis, taken apart.
 --   RowAt, row-at                     pivot d, the entries r behind it, the rows after it, and m / d
+--   row-quotient                      that last number is m / d, in the words of `pivot`
 --   pivot-divides, pivot-positive     the pivot divides m and is not 0
 --   tail-at                           the entries behind the pivot are residues
 --   good-drop                         the rows from j on are a good basis
 use mathlib.Core.Path.{_≡_, refl, sym, ap, _∙_}
 use mathlib.Core.List.{List, [], _∷_}
-use Prim.Native.Nat.{ℕ, zero, suc, _+_, _*_, _<_}
+use Prim.Native.Nat.{ℕ, zero, suc, _+_, _*_, _/_, _<_}
+use native.Mathlib.Nat.{div-eq-of-eq-mul-right}
 use native.Mathlib.Omega.{arith}
 use lib.ListN.{length, drop}
 use Rattle.residue.specs.Divides.{Divides}
@@ -50,6 +52,11 @@ row-at m k (suc i) ((d ∷ r) ∷ B) good h =
       pivot-is = a .pivot-is;
       long = a .long;
     }
+
+pub row-quotient : (m k i : ℕ) (B : List (List ℕ)) → 0 < m → (a : RowAt m k i B) → m / pivot i B ≡ a .e
+row-quotient m k i B pos a =
+    ap (λ (d : ℕ). m / d) (a .pivot-is)
+    ∙ div-eq-of-eq-mul-right (factor-positive m (a .d) (a .e) (a .factor) pos) (a .factor)
 
 module _ (m k i : ℕ) (B : List (List ℕ)) (pos : 0 < m) (good : Good m k B) (at : i < length B) where
   pub pivot-divides : Divides (pivot i B) m

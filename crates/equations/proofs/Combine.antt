@@ -4,6 +4,7 @@
 --   combine-comm         a sum's two parts may change places
 --   combine-assoc        c + (v + t·w) = (c + v) + t·w
 --   combine-zeros        v + 0 = v
+--   combine-none         v + 0·w = v
 --   combine-undo         (v + s·w) + t·w = v where s + t ≡ 0
 --   combine-difference   c + (v - c) = v
 --   combine-cancel       v is known from v + t·w
@@ -55,6 +56,14 @@ combine-zeros m zero (x ∷ v) vec = absurd vec
 combine-zeros m (suc n) [] vec = absurd vec
 combine-zeros m (suc n) (x ∷ v) vec =
     ap₂ _∷_ (ap (λ (z : ℕ). z % m) (omega arith) ∙ mod-eq-of-lt (vec .0)) (combine-zeros m n v (vec .1))
+
+pub combine-none : (m n : ℕ) (v w : List ℕ) → Vector m n v → Vector m n w → combine m 1 0 v w ≡ v
+combine-none m zero [] w a b = refl
+combine-none m zero (x ∷ v) w a b = absurd a
+combine-none m (suc n) [] w a b = absurd a
+combine-none m (suc n) (x ∷ v) [] a b = absurd b
+combine-none m (suc n) (x ∷ v) (y ∷ w) a b =
+    ap₂ _∷_ (ap (λ (z : ℕ). z % m) (omega arith) ∙ mod-eq-of-lt (a .0)) (combine-none m n v w (a .1) (b .1))
 
 module _ (m s t : ℕ) (pos : 0 < m) (opposite : Congruent m (s + t) 0) where
   entry-undo : (x y : ℕ) → x < m → (1 * ((1 * x + s * y) % m) + t * y) % m ≡ x

@@ -2,8 +2,8 @@
 pub mod Truth
 pub mod Dot
 pub mod Unit
-pub mod Without
 pub mod Vectors
+pub mod Without
 pub mod Lines
 pub mod Whole
 pub mod First
@@ -20,11 +20,14 @@ pub mod Ranges
 pub mod Writing
 pub mod Answer
 pub mod OwnAnswer
+pub mod Superfluous
+pub mod Marks
 pub mod Fails
 pub mod Reasons
 pub mod Sums
 pub mod Count
 pub mod Number
+pub mod Images
 pub mod Places
 pub mod Multipliers
 pub mod Special

@@ -1,9 +1,9 @@
 -- The answer to lines, each mod its own q, is the answer to the equations that they are once scaled, mod m; and lines
 -- whose moduli are all m are the equations that they hold.
---   line-start, line-step-at, line-steps, line-right     start, a step, steps and marking of the scaled lines
+--   line-start, line-step-at, line-steps, line-right, line-mark   start, a step, steps and marking of the scaled lines
 --   line-right-described                                 a claim that describes only vectors of n residues is right: those are where the lines hold
 --   plain-moduli, plain-holds, plain-scaled               lines that are all mod m
---   plain-start, plain-step, plain-steps, plain-right, plain-refutes   their answer
+--   plain-start, plain-step, plain-steps, plain-mark, plain-refutes   their answer
 use mathlib.Core.Path.{_≡_, refl, ap, ap₂, _∙_, sym}
 use mathlib.Core.Logic.{_↔_}
 use mathlib.Core.List.{List, [], _∷_, map}
@@ -18,7 +18,8 @@ use Rattle.equations.specs.Equation.{Equation, solvesOne, solves, homoge
 use Rattle.equations.specs.Answer.{startOf, stepAt, stepsOf}
 use Rattle.equations.specs.Multipliers.{refutes}
 use Rattle.equations.specs.Claim.{Claim, describes, isRight}
-use Rattle.equations.specs.Line.{Line, Moduli, holds, level, lineStart, lineStepAt, lineSteps, lineIsRight, scaled, lineRefutes, linesMod}
+use Rattle.equations.specs.Marks.{superfluousIn, markWith, markOf}
+use Rattle.equations.specs.Line.{Line, Moduli, holds, level, lineStart, lineStepAt, lineSteps, lineIsRight, lineMark, scaled, lineRefutes, linesMod}
 use Rattle.equations.proofs.Claim.{among-described}
 use Rattle.equations.proofs.Sets.{start-among, step-at-among, steps-among, right-among, start-same, step-same, steps-same, right-same}
 use Rattle.equations.proofs.Scaled.{holds-scaled, holds-level-scaled}
@@ -51,6 +52,10 @@ module _ (m n : ℕ) (pos : 0 < m) (ls : List Line) (moduli : Moduli m ls) where
   line-right claim =
       right-same m n (holds ls) (solves m (scaled m ls)) (λ v vec. holds-scaled m pos ls moduli v) claim
       ∙ sym (right-among m n (scaled m ls) claim)
+
+  pub line-mark : (claim : Claim) → lineMark m n ls claim ≡ markOf m n (scaled m ls) claim
+  unfolding lineMark markOf
+  line-mark claim = ap (λ (b : Bool). markWith b (superfluousIn m n claim)) (line-right claim)
 
 -- ---- claims
 
@@ -97,10 +102,10 @@ module _ (m n : ℕ) (pos : 0 < m) (es : List Equation) where
   pub plain-steps : lineSteps m n (linesMod m es) ≡ stepsOf m n es
   plain-steps = line-steps m n pos (linesMod m es) (plain-moduli m es) ∙ ap (stepsOf m n) (plain-scaled m pos es)
 
-  pub plain-right : (claim : Claim) → lineIsRight m n (linesMod m es) claim ≡ isRight m n es claim
-  plain-right claim =
-      line-right m n pos (linesMod m es) (plain-moduli m es) claim
-      ∙ ap (λ (es : List Equation). isRight m n es claim) (plain-scaled m pos es)
+  pub plain-mark : (claim : Claim) → lineMark m n (linesMod m es) claim ≡ markOf m n es claim
+  plain-mark claim =
+      line-mark m n pos (linesMod m es) (plain-moduli m es) claim
+      ∙ ap (λ (es : List Equation). markOf m n es claim) (plain-scaled m pos es)
 
   pub plain-refutes : (ks : List ℕ) → lineRefutes m n (linesMod m es) ks ≡ refutes m n es ks
   unfolding lineRefutes

@@ -17,7 +17,7 @@ use Rattle.equations.specs.Line.{Line, Moduli, holds, lineStart, lineSte
 use Rattle.equations.specs.LinePromises.{isLineStep, LineStartFirst, LineNoStart, LineStepFirst, LineNoStep, LineComplete, LineUnique, LineStepDivides, LineCounted, LineOwnAnswer, LineRefuted, ScaledAlike, PlainAlike}
 use Rattle.equations.proofs.Search.{first-of, first-some, found-none}
 use Rattle.equations.proofs.Scaled.{holds-scaled}
-use Rattle.equations.proofs.LineAnswer.{line-start, line-step-at, line-steps, line-right, plain-holds, plain-start, plain-step, plain-steps, plain-right, plain-refutes}
+use Rattle.equations.proofs.LineAnswer.{line-start, line-step-at, line-steps, line-right, plain-holds, plain-start, plain-step, plain-steps, plain-mark, plain-refutes}
 use Rattle.equations.proofs.LineReasons.{same-solutions, plain-reason}
 use Rattle.equations.proofs.Promises.{complete, unique, step-divides, counted, own-answer, refuted}
 
@@ -89,6 +89,6 @@ plain-alike m n es pos = (
   plain-step m n pos es,
   plain-steps m n pos es,
   plain-refutes m n pos es,
-  plain-right m n pos es,
+  plain-mark m n pos es,
   plain-reason m n pos es,
 )

@@ -2,7 +2,7 @@
 use mathlib.Core.Path.{fun-ext}
 use mathlib.Core.List.{_∷_, _++_}
 use native.Mathlib.Omega.{arith}
-use Rattle.equations.specs.Promises.{constant, DictionaryOrder, StartFirst, NoStart, StepFirst, NoStep, Complete, Unique, StepDivides, Counted, OwnAnswer, Refuted, NoEquations, ZeroEquation, ContradictoryEquation, ResiduesSolve}
+use Rattle.equations.specs.Promises.{constant, DictionaryOrder, StartFirst, NoStart, StepFirst, NoStep, Complete, Unique, StepDivides, Counted, OwnAnswer, Refuted, NoEquations, ZeroEquation, ContradictoryEquation, ResiduesSolve, RightButLong, ZeroStep}
 use Rattle.equations.proofs.Vectors.{before-asym, before-trans, before-total}
 use Rattle.equations.proofs.Whole as Whole
 use Rattle.equations.proofs.Answer.{first-solution, start-none, first-step, step-none, answer-complete, answer-unique}
@@ -10,6 +10,8 @@ use Rattle.equations.proofs.OwnAnswer.{answer-right, none-right}
 use Rattle.equations.proofs.Number.{count-solutions}
 use Rattle.equations.proofs.Places.{step-entry}
 use Rattle.equations.proofs.Multipliers.{refuted-none}
+use Rattle.equations.proofs.Superfluous.{zero-step as zero-of-claim}
+use Rattle.equations.proofs.Marks.{right-but-long as long-of-claim}
 use Rattle.equations.proofs.Special.{solves-start, solves-steps, solves-right, none-start, none-steps, zero-solves, zero-homogeneous, contradiction-none}
 
 pub dictionary-order : DictionaryOrder
@@ -64,3 +66,9 @@ contradictory-equation = contradiction-none
 
 pub residues-solve : ResiduesSolve
 residues-solve m n xs v positive = Whole.residues-solve m positive n xs v
+
+pub right-but-long : RightButLong
+right-but-long = long-of-claim
+
+pub zero-step : ZeroStep
+zero-step m n ss pos vs j lt is = zero-of-claim m n ss j pos vs lt is

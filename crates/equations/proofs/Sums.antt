@@ -2,15 +2,21 @@
 --   sum             f x + f (x + 1) + .., k of them
 --   sum-cong        equal terms
 --   sum-none        terms that are 0
+--   sum-single      all terms but one are 0
 --   sum-append      a sum in two parts
 --   sum-rotate      over all residues y the order is free: y + a mod m instead of y
 --   sum-multiples   e multiples of d below e·d
 use mathlib.Core.Path.{_≡_, refl, ap, ap₂, _∙_, sym}
+use mathlib.Core.Logic.{_⊎_, inl, inr}
+use mathlib.Core.Bool.{true, false}
 use Prim.Native.Nat.{ℕ, zero, suc, _+_, _-_, _*_, _%_, _≤_, _<_}
 use native.Mathlib.Nat.{mod-eq-of-lt, lt-of-mul-lt-mul-right}
 use native.Mathlib.Omega.{arith}
+use lib.Dec.{eqb}
+use borrow.Author.Tests.{eqb-true, eqb-false}
 use Rattle.residue.specs.Congruent.{Congruent}
 use Rattle.residue.proofs.Congruent.{congruent-of-eq, congruent-refl, congruent-trans, congruent-add, congruent-mod, congruent-multiple, remainder-of-congruent}
+use Rattle.equations.proofs.Truth.{true-or-false}
 
 abbrev pub sum : (ℕ → ℕ) → ℕ → ℕ → ℕ
 sum f x zero = 0
@@ -25,6 +31,16 @@ pub sum-none : (f : ℕ → ℕ) (x k : ℕ) → ((y : ℕ) → x ≤ y → y < 
 sum-none f x zero h = refl
 sum-none f x (suc k) h =
     ap₂ _+_ (h x (omega arith) (omega arith)) (sum-none f (suc x) k (λ y a b. h y (omega arith) (omega arith)))
+
+pub sum-single : (f : ℕ → ℕ) (z x k : ℕ) → ((y : ℕ) → (y ≡ z → ⊥) → f y ≡ 0) → sum f x k ≤ f z
+sum-single f z x zero others = omega arith
+sum-single f z x (suc k) others = go (true-or-false (eqb x z)) (sum-single f z (suc x) k others)
+  where
+    go : (eqb x z ≡ true) ⊎ (eqb x z ≡ false) → sum f (suc x) k ≤ f z → f x + sum f (suc x) k ≤ f z
+    go (inl e) rest =
+        let here : x ≡ z = eqb-true x z e in
+        omega (arith, ap f here, sum-none f (suc x) k (λ y low high. others y (λ there. omega arith)))
+    go (inr e) rest = omega (arith, others x (eqb-false x z e))
 
 -- l = j + k terms from x: j from x, then k from y = x + j
 pub sum-append : (f : ℕ → ℕ) (x j k l y : ℕ) → l ≡ j + k → y ≡ x + j → sum f x l ≡ sum f x j + sum f y k

@@ -1,10 +1,8 @@
--- A student's claim, what it describes, and its mark. Definitions only.
+-- A student's claim, what it describes, and when that is right. Definitions only.
 use mathlib.Core.List.{List}
 use mathlib.Core.Bool.{Bool, false, Bool·beq}
 use Prim.Native.Nat.{ℕ}
 use lib.ListN.{length}
-use Rattle.equations.specs.declared.Mark.{Mark}
-use Rattle.equations.specs.declared.Mark.the-variants.{Pass, Fail}
 use Rattle.equations.specs.Lists.{every, someone}
 use Rattle.equations.specs.Vectors.{vectors, sameVector, combination}
 use Rattle.equations.specs.Equation.{Equation, solves}
@@ -21,11 +19,6 @@ describes m noSolution v = false
 describes m (from start steps) v =
     someone (λ ts. sameVector (combination m start steps ts) v) (vectors m (length steps))
 
--- "Pass if the described vectors are those that solve the ledger's equations, fail otherwise."
+-- "the described vectors are those that solve the ledger's equations": "right set", in document 02's words
 unfoldable pub isRight : ℕ → ℕ → List Equation → Claim → Bool
 isRight m n es claim = every (λ v. Bool·beq (describes m claim v) (solves m es v)) (vectors m n)
-
--- a mark's number, as a result in C and as a byte: "0 fail, 1 pass"
-abbrev pub markNumber : Mark → ℕ
-markNumber Pass = 1
-markNumber Fail = 0

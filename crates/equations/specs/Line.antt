@@ -9,7 +9,9 @@ use lib.ListN.{length}
 use Rattle.residue.specs.Divides.{Divides}
 use Rattle.equations.specs.Equation.{Equation, solvesOne}
 use Rattle.equations.specs.Multipliers.{refutes}
+use Rattle.equations.specs.declared.Mark.{Mark}
 use Rattle.equations.specs.Claim.{Claim}
+use Rattle.equations.specs.Marks.{superfluousIn, markWith}
 use Rattle.equations.specs.Sets.{startAmong, stepAmong, stepsAmong, isRightAmong}
 
 -- "An equation record gains a modulus q that divides the sheet's m"
@@ -61,6 +63,9 @@ lineSteps m n ls = stepsAmong m n (holds (level ls))
 
 unfoldable pub lineIsRight : ℕ → ℕ → List Line → Claim → Bool
 lineIsRight m n ls claim = isRightAmong m n (holds ls) claim
+
+unfoldable pub lineMark : ℕ → ℕ → List Line → Claim → Mark
+lineMark m n ls claim = markWith (lineIsRight m n ls claim) (superfluousIn m n claim)
 
 -- ---- as equations mod m
 

@@ -15,10 +15,11 @@ use Rattle.equations.specs.Vectors.{Vector, First, vectors, combination}
 use Rattle.equations.specs.Equation.{Equation, solves}
 use Rattle.equations.specs.Answer.{startOf, leadsAt, stepAt, stepsOf, leading, rangeProduct}
 use Rattle.equations.specs.Multipliers.{refutes}
-use Rattle.equations.specs.Claim.{Claim, noSolution, from, isRight}
+use Rattle.equations.specs.Claim.{Claim, noSolution, from}
+use Rattle.equations.specs.Marks.{markOf}
 use Rattle.equations.specs.Reasons.{reasonOf}
 use Rattle.equations.specs.Promises.{Within, Written}
-use Rattle.equations.specs.Line.{Line, Moduli, holds, level, lineStart, lineStepAt, lineSteps, lineIsRight, scaled, lineRefutes, linesMod}
+use Rattle.equations.specs.Line.{Line, Moduli, holds, level, lineStart, lineStepAt, lineSteps, lineIsRight, lineMark, scaled, lineRefutes, linesMod}
 use Rattle.equations.specs.LineReasons.{lineReason}
 
 -- "Starting vector: the first solution in dictionary order."
@@ -71,7 +72,7 @@ LineCounted =
     (m n : ℕ) (ls : List Line) (c : List ℕ) → 0 < m → Moduli m ls → lineStart m n ls ≡ some c
     → count (holds ls) (vectors m n) ≡ rangeProduct m (lineSteps m n ls)
 
--- the answer, handed in as a claim, is marked "pass"
+-- the answer, handed in as a claim, is right
 abbrev pub LineOwnAnswer : Type 0
 LineOwnAnswer =
     (m n : ℕ) (ls : List Line) → 0 < m → Moduli m ls
@@ -98,5 +99,5 @@ PlainAlike =
     × ((j : ℕ) → lineStepAt m n (linesMod m es) j ≡ stepAt m n es j)
     × (lineSteps m n (linesMod m es) ≡ stepsOf m n es)
     × ((ks : List ℕ) → lineRefutes m n (linesMod m es) ks ≡ refutes m n es ks)
-    × ((claim : Claim) → lineIsRight m n (linesMod m es) claim ≡ isRight m n es claim)
+    × ((claim : Claim) → lineMark m n (linesMod m es) claim ≡ markOf m n es claim)
     × ((claim : Claim) → lineReason m n (linesMod m es) claim ≡ reasonOf m n es claim)

@@ -1,4 +1,4 @@
--- Why a claim about lines fails: what Reasons says of equations mod one m, "now read from these lines, each mod its q". The reasons and
+-- Why a claim about lines fails, or is long: what Reasons says of equations mod one m, "now read from these lines, each mod its q". The reasons and
 -- their numbers are those of Reasons. Definitions only.
 use mathlib.Core.Path.{_≡_}
 use mathlib.Core.List.{List, [], _∷_}
@@ -6,11 +6,12 @@ use mathlib.Core.Bool.{Bool, cond, not}
 use Prim.Native.Nat.{ℕ}
 use lib.Dec.{T}
 use Rattle.equations.specs.declared.Reason.{Reason}
-use Rattle.equations.specs.declared.Reason.the-variants.{Passes, Solvable, Unsolvable, Breaks, Changes, Misses}
+use Rattle.equations.specs.declared.Reason.the-variants.{Passes, Solvable, Unsolvable, Breaks, Changes, Misses, Superfluous}
 use Rattle.equations.specs.Lists.{every, someone, failsAt}
 use Rattle.equations.specs.Vectors.{Vector, vectors}
 use Rattle.equations.specs.Claim.{Claim, noSolution, from, describes}
-use Rattle.equations.specs.Reasons.{FirstFails, Starting}
+use Rattle.equations.specs.Marks.{superfluousAt, Starting, HasSuperfluous, FirstSuperfluous}
+use Rattle.equations.specs.Reasons.{rightReason, FirstFails}
 use Rattle.equations.specs.Line.{Line, holdsOne, holds, level, lineIsRight, lineRefutes}
 
 -- some vector of residues is where they all hold
@@ -32,14 +33,15 @@ lineChanged ls (s ∷ ss) = cond (lineKeeps ls s) (lineChanged ls ss) (brokenLin
 
 -- "The tool gives the first of these that holds: none was claimed but here is a solution; there is none, here are multipliers; the start
 -- breaks an equation, the first such; a step changes an equation's left side, giving the first step, and for it the first such
--- equation; a solution that the claim does not describe. A passed claim gives no reason".
+-- equation; a solution that the claim does not describe. A passed claim gives no reason", and "for a long claim, the number of its first
+-- superfluous step".
 unfoldable pub lineReason : ℕ → ℕ → List Line → Claim → Reason
 lineReason m n ls noSolution = cond (lineSolvable m n ls) Solvable Passes
 lineReason m n ls (from start steps) =
     cond (not (lineSolvable m n ls)) Unsolvable
     (cond (not (holds ls start)) (Breaks (brokenLine ls start))
     (cond (not (every (lineKeeps ls) steps)) (Changes (failsAt (lineKeeps ls) steps) (lineChanged ls steps))
-    (cond (lineIsRight m n ls (from start steps)) Passes Misses)))
+    (cond (lineIsRight m n ls (from start steps)) (rightReason (superfluousAt m n steps)) Misses)))
 
 -- ---- what a reason says
 
@@ -49,7 +51,7 @@ LineSolution m n ls v = Vector m n v × T (holds ls v)
 -- "true as stated": what a reason says of a claim, with the numbers that are shown beside it. Each case begins with what holds since
 -- no earlier reason does.
 abbrev pub LineSays : ℕ → ℕ → List Line → Claim → Reason → List ℕ → Type 0
-LineSays m n ls claim Passes shown = T (lineIsRight m n ls claim) × (shown ≡ [])
+LineSays m n ls claim Passes shown = T (lineIsRight m n ls claim) × (HasSuperfluous m n claim → ⊥) × (shown ≡ [])
 LineSays m n ls claim Solvable shown = (claim ≡ noSolution) × LineSolution m n ls shown
 LineSays m n ls claim Unsolvable shown =
     Starting claim (λ start steps. (v : List ℕ) → LineSolution m n ls v → ⊥) × T (lineRefutes m n ls shown)
@@ -64,3 +66,5 @@ LineSays m n ls claim (Changes step equation) shown =
 LineSays m n ls claim Misses shown =
     Starting claim (λ start steps. T (holds ls start) × T (every (lineKeeps ls) steps))
     × LineSolution m n ls shown × (T (describes m claim shown) → ⊥)
+LineSays m n ls claim (Superfluous step) shown =
+    T (lineIsRight m n ls claim) × Starting claim (λ start steps. FirstSuperfluous m n steps step) × (shown ≡ [])

@@ -1,23 +1,24 @@
--- Demand 2 about the definitions, in the customer's words and document 01's; and, last, document 02's about whole numbers. Each promise is
--- a type; proofs/Promises.antt keeps it. Definitions only.
+-- Demand 2 about the definitions, in the customer's words and document 01's; and, last, document 02's about long claims and about whole
+-- numbers. Each promise is a type; proofs/Promises.antt keeps it. Definitions only.
 use mathlib.Core.Path.{_≡_}
 use mathlib.Core.Logic.{_↔_, _⊎_}
 use mathlib.Core.List.{List, [], _∷_, _++_, map}
 use mathlib.Core.Option.{none, some}
 use Prim.Native.Nat.{ℕ, zero, suc, _<_}
-use lib.ListN.{getD, replicate}
+use lib.ListN.{length, getD, replicate}
 use lib.Dec.{T}
 use lib.IntN.{ℤ}
 use Rattle.residue.specs.Divides.{Divides}
 use Rattle.residue.specs.Residue.{residueOf}
-use Rattle.equations.specs.Lists.{count}
-use Rattle.equations.specs.Vectors.{Vector, Before, First, vectors, combination}
+use Rattle.equations.specs.Lists.{count, without}
+use Rattle.equations.specs.Vectors.{Vector, AllVectors, Before, First, vectors, combination}
 use Rattle.equations.specs.Equation.{Equation, solvesOne, solves}
 use Rattle.equations.specs.Lines.{equationAt}
 use Rattle.equations.specs.Whole.{HoldsWhole}
 use Rattle.equations.specs.Answer.{startOf, isStep, stepAt, stepsOf, leading, rangeOf, rangeProduct}
 use Rattle.equations.specs.Multipliers.{refutes}
 use Rattle.equations.specs.Claim.{Claim, noSolution, from, isRight}
+use Rattle.equations.specs.Marks.{markOf, SuperfluousStep, HasSuperfluous, Tells}
 
 -- "Vectors of n residues stand in dictionary order": of two different ones just one comes before the other, and what comes
 -- before v comes before whatever v is before. So at most one vector is the first that passes a test.
@@ -88,8 +89,7 @@ Counted =
     (m n : ℕ) (es : List Equation) (c : List ℕ) → 0 < m → startOf m n es ≡ some c
     → count (solves m es) (vectors m n) ≡ rangeProduct m (stepsOf m n es)
 
--- the answer, handed in as a claim, is marked "pass": the start with all the steps,
--- or no solution where there is no start
+-- the answer, handed in as a claim, is right: the start with all the steps, or no solution where there is no start
 abbrev pub OwnAnswer : Type 0
 OwnAnswer =
     (m n : ℕ) (es : List Equation) → 0 < m
@@ -127,6 +127,26 @@ ZeroEquation =
 abbrev pub ContradictoryEquation : Type 0
 ContradictoryEquation =
     (m n k b : ℕ) (es fs : List Equation) → 0 < b → b < m → startOf m n (es ++ (constant k b ∷ fs)) ≡ none
+
+-- Document 02, S-8: the mark is `long` "where the described set is right but some step is itself a combination of the others. `pass` then
+-- means right set and no such step", and a wrong set fails.
+abbrev pub RightButLong : Type 0
+RightButLong =
+    (m n : ℕ) (es : List Equation) (claim : Claim)
+    → Tells (λ mark. mark) (T (isRight m n es claim)) (HasSuperfluous m n claim) (markOf m n es claim)
+
+-- "The zero vector as a step is always superfluous."
+abbrev pub ZeroStep : Type 0
+ZeroStep =
+    (m n : ℕ) (ss : List (List ℕ)) → 0 < m → AllVectors m n ss
+    → (j : ℕ) → j < length ss → getD ss j [] ≡ replicate n 0 → SuperfluousStep m n ss j
+
+-- A step of a right claim is superfluous exactly where it can be left out. (`elimination` keeps this promise, since it takes spans.)
+abbrev pub StepLeftOut : Type 0
+StepLeftOut =
+    (m n : ℕ) (es : List Equation) (c : List ℕ) (ss : List (List ℕ)) → 0 < m → Vector m n c → AllVectors m n ss
+    → T (isRight m n es (from c ss))
+    → (j : ℕ) → j < length ss → SuperfluousStep m n ss j ↔ T (isRight m n es (from c (without j ss)))
 
 -- Document 02, S-3: an equation of whole numbers holds mod m at just the vectors that solve the equation of their residues.
 abbrev pub ResiduesSolve : Type 0

@@ -7,7 +7,8 @@ use lib.ListN.{replicate}
 use Rattle.slices.specs.Pieces.{pieces}
 use Rattle.questions.specs.Reply.{resultOf, memoryAfter}
 use Rattle.equations.specs.Claim.{describes}
-use Rattle.equations.specs.Line.{lineIsRight, linesMod}
+use Rattle.equations.specs.Marks.{superfluous, superfluousAt}
+use Rattle.equations.specs.Line.{lineIsRight, lineMark, linesMod}
 use Rattle.system.specs.Claims.{claimOf, vectorsOf}
 use Rattle.words.specs.Words.{word, wordsIn, coefficientKind, headKind, entryKind}
 use Rattle.ledger.specs.Ledger.{Ledger, unopened, opened}
@@ -68,14 +69,14 @@ class =
     ∷ (word entryKind 0 ∷ []) ∷ block 1 (0 ∷ []) ∷ [])
 
 pub bytes : classBytes sheet class ≡ 1 ∷ 0 ∷ 0 ∷ 106 ∷ 101 ∷ 101 ∷ 101 ∷ []
-unfolding claimsIn pieces markedOf refusalOf wordsIn claimOf vectorsOf lineIsRight describes
+unfolding claimsIn pieces markedOf refusalOf wordsIn claimOf vectorsOf lineMark lineIsRight superfluousAt superfluous describes
 bytes = refl
 
 -- "bytes past the last claim keep their content"
 pub bytes-kept :
     (classedOf sheet class (replicate 9 9) ≡ Claims 7)
     × (marksAfter sheet class (replicate 9 9) ≡ 1 ∷ 0 ∷ 0 ∷ 106 ∷ 101 ∷ 101 ∷ 101 ∷ 9 ∷ 9 ∷ [])
-unfolding classedOf marksAfter resultOf memoryAfter claimsIn pieces markedOf refusalOf wordsIn claimOf vectorsOf lineIsRight describes
+unfolding classedOf marksAfter resultOf memoryAfter claimsIn pieces markedOf refusalOf wordsIn claimOf vectorsOf lineMark lineIsRight superfluousAt superfluous describes
 bytes-kept = (refl, refl)
 
 -- ---- what turns a class away

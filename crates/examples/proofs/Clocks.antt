@@ -15,7 +15,8 @@ use Rattle.equations.specs.declared.Reason.the-variants.{Passes, Breaks, Change
 use Rattle.equations.specs.Lines.{equationsOf}
 use Rattle.equations.specs.Multipliers.{refutes}
 use Rattle.equations.specs.Claim.{describes}
-use Rattle.equations.specs.Line.{Line, lineStart, lineSteps, lineIsRight, lineRefutes, linesMod}
+use Rattle.equations.specs.Marks.{superfluous, superfluousAt}
+use Rattle.equations.specs.Line.{Line, lineStart, lineSteps, lineIsRight, lineMark, lineRefutes, linesMod}
 use Rattle.equations.specs.LineReasons.{lineSolvable, lineReason}
 use Rattle.system.specs.Claims.{claimOf, vectorsOf}
 use Rattle.system.specs.Lines.{lineBlock}
@@ -105,14 +106,14 @@ three = opened 12 1 (is 3 2 ∷ [])
 pub marked :
     (claimMark three (block 2 (2 ∷ 3 ∷ [])) ≡ Pass) × (claimMark three (block 2 (11 ∷ 9 ∷ [])) ≡ Pass)
     × (claimMark three (block 2 (2 ∷ 6 ∷ [])) ≡ Fail)
-unfolding wordsIn claimOf vectorsOf lineIsRight describes
+unfolding wordsIn claimOf vectorsOf lineMark lineIsRight superfluousAt superfluous describes
 marked = (refl, refl, refl)
 
 -- 5 leaves 2 mod 3, though not mod 12; the step 3 changes the left side mod 12 alone, the step 2 mod 3 too
 pub reasons :
     (claimReason three (block 2 (5 ∷ 3 ∷ [])) ≡ Passes) × (claimReason three (block 1 (3 ∷ [])) ≡ Breaks 1)
     × (claimReason three (block 3 (2 ∷ 3 ∷ 2 ∷ [])) ≡ Changes 2 1)
-unfolding wordsIn claimOf vectorsOf lineReason lineSolvable lineIsRight describes
+unfolding wordsIn claimOf vectorsOf lineReason lineSolvable lineIsRight superfluousAt superfluous describes
 reasons = (refl, refl, refl)
 
 -- ---- what is turned away

@@ -1,4 +1,4 @@
--- Seven tables.
+-- Eight tables.
 pub mod Starred
 pub mod Typed
 pub mod Signed
@@ -6,3 +6,4 @@ pub mod Classes
 pub mod Reasons
 pub mod Clocks
 pub mod Strikes
+pub mod Long

@@ -9,6 +9,7 @@ use Rattle.questions.specs.Reply.{resultOf, memoryAfter}
 use Rattle.equations.specs.declared.Reason.the-variants.{Passes, Solvable, Unsolvable, Breaks, Changes, Misses}
 use Rattle.equations.specs.Answer.{startOf}
 use Rattle.equations.specs.Claim.{describes}
+use Rattle.equations.specs.Marks.{superfluous, superfluousAt}
 use Rattle.equations.specs.Line.{lineIsRight, linesMod}
 use Rattle.equations.specs.LineReasons.{lineSolvable, lineReason}
 use Rattle.system.specs.Claims.{claimOf, vectorsOf}
@@ -33,7 +34,7 @@ pub one-of-each :
     × (claimReason sheet (block 2 (0 ∷ 0 ∷ 1 ∷ 0 ∷ [])) ≡ Changes 1 1)
     × (claimReason sheet (block 2 (0 ∷ 0 ∷ 0 ∷ 2 ∷ [])) ≡ Misses)
     × (claimReason sheet (block 2 (0 ∷ 0 ∷ 2 ∷ 3 ∷ [])) ≡ Passes)
-unfolding wordsIn claimOf vectorsOf lineReason lineSolvable lineIsRight describes
+unfolding wordsIn claimOf vectorsOf lineReason lineSolvable lineIsRight superfluousAt superfluous describes
 one-of-each = (refl, refl, refl, refl, refl)
 
 -- "the first such": of three equations the second and the third are broken
@@ -81,7 +82,7 @@ pub nothing-written :
     × (reasonedOf sheet (block 2 (0 ∷ 0 ∷ 1 ∷ 0 ∷ [])) [] ≡ Gives (Changes 1 1) 0)
     × (reasonedOf sheet (block 2 (0 ∷ 0 ∷ 2 ∷ 3 ∷ [])) [] ≡ Gives Passes 0)
     × (shownAfter sheet (block 2 (0 ∷ 0 ∷ 2 ∷ 3 ∷ [])) (9 ∷ []) ≡ 9 ∷ [])
-unfolding reasonedOf shownAfter resultOf memoryAfter reasonWords lineShown wordsIn claimOf vectorsOf lineReason lineSolvable lineIsRight describes
+unfolding reasonedOf shownAfter resultOf memoryAfter reasonWords lineShown wordsIn claimOf vectorsOf lineReason lineSolvable lineIsRight superfluousAt superfluous describes
 nothing-written = (refl, refl, refl, refl)
 
 -- ---- what is turned away

@@ -25,7 +25,8 @@ use Rattle.equations.specs.Answer.{startOf, stepAt, stepsOf}
 use Rattle.equations.specs.Lines.{equationsOf}
 use Rattle.equations.specs.Multipliers.{refutes}
 use Rattle.equations.specs.Claim.{from, describes, isRight}
-use Rattle.equations.specs.Line.{lineStart, lineSteps, lineIsRight, linesMod}
+use Rattle.equations.specs.Marks.{superfluous, superfluousAt, markOf}
+use Rattle.equations.specs.Line.{lineStart, lineSteps, lineIsRight, lineMark, linesMod}
 use Rattle.equations.specs.Promises.{ZeroEquation, ContradictoryEquation}
 use Rattle.equations.proofs.Truth.{true-of}
 use Rattle.equations.proofs.Vectors.{all-below}
@@ -124,13 +125,13 @@ unfolding startOf stepsOf stepAt
 one-two-is-zero = (refl, refl)
 
 -- "Claim 0 0 with step 2 3: pass"
-pub step-two-three-passes : isRight 4 2 oneTwoIsZero (from (0 ∷ 0 ∷ []) ((2 ∷ 3 ∷ []) ∷ [])) ≡ true
-unfolding isRight describes
+pub step-two-three-passes : markOf 4 2 oneTwoIsZero (from (0 ∷ 0 ∷ []) ((2 ∷ 3 ∷ []) ∷ [])) ≡ Pass
+unfolding markOf isRight superfluousAt superfluous describes
 step-two-three-passes = refl
 
 -- "with 0 2 alone: fail."
-pub step-zero-two-fails : isRight 4 2 oneTwoIsZero (from (0 ∷ 0 ∷ []) ((0 ∷ 2 ∷ []) ∷ [])) ≡ false
-unfolding isRight describes
+pub step-zero-two-fails : markOf 4 2 oneTwoIsZero (from (0 ∷ 0 ∷ []) ((0 ∷ 2 ∷ []) ∷ [])) ≡ Fail
+unfolding markOf isRight superfluousAt superfluous describes
 step-zero-two-fails = refl
 
 -- so too through the calls: the answer, and both claims
@@ -144,13 +145,13 @@ unfolding sheetFrom fresh sheetAfter ledgerOf bufferAfter memoryAfter refusalOf 
 one-two-is-zero-answered x = refl
 
 pub step-two-three-marked : marked oneTwoIsZeroCalls (block 2 (0 ∷ 0 ∷ 2 ∷ 3 ∷ [])) ≡ Gets Pass
-unfolding sheetFrom fresh sheetAfter ledgerOf markedOf refusalOf wordsIn residueOf equationsOf claimOf vectorsOf lineIsRight
-    describes
+unfolding sheetFrom fresh sheetAfter ledgerOf markedOf refusalOf wordsIn residueOf equationsOf claimOf vectorsOf lineMark
+    lineIsRight superfluousAt superfluous describes
 step-two-three-marked = refl
 
 pub step-zero-two-marked : marked oneTwoIsZeroCalls (block 2 (0 ∷ 0 ∷ 0 ∷ 2 ∷ [])) ≡ Gets Fail
-unfolding sheetFrom fresh sheetAfter ledgerOf markedOf refusalOf wordsIn residueOf equationsOf claimOf vectorsOf lineIsRight
-    describes
+unfolding sheetFrom fresh sheetAfter ledgerOf markedOf refusalOf wordsIn residueOf equationsOf claimOf vectorsOf lineMark
+    lineIsRight superfluousAt superfluous describes
 step-zero-two-marked = refl
 
 -- "m=6: 2x=4, 3x=3: from 5, no step."

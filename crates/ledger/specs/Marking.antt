@@ -1,21 +1,19 @@
 -- The mark of a claim that lies in words, and the reason beside it. Definitions only.
-use mathlib.Core.Bool.{cond}
 use mathlib.Core.List.{List}
 use Prim.Native.Nat.{ℕ}
 use Rattle.equations.specs.declared.Mark.{Mark}
-use Rattle.equations.specs.declared.Mark.the-variants.{Pass, Fail}
 use Rattle.equations.specs.declared.Reason.{Reason}
-use Rattle.equations.specs.declared.Reason.the-variants.{Passes, Solvable, Unsolvable, Breaks, Changes, Misses}
-use Rattle.equations.specs.Line.{lineIsRight}
+use Rattle.equations.specs.declared.Reason.the-variants.{Passes, Solvable, Unsolvable, Breaks, Changes, Misses, Superfluous}
+use Rattle.equations.specs.Line.{lineMark}
 use Rattle.equations.specs.LineReasons.{lineReason}
 use Rattle.system.specs.Lines.{lineShown}
 use Rattle.words.specs.Words.{wordsIn, wordsOf, entryKind, multiplierKind}
 use Rattle.ledger.specs.Ledger.{Ledger, modulusOf, unknownsOf, linesIn}
 use Rattle.ledger.specs.Shapes.{claimFrom}
 
--- "Pass if the described vectors are those that solve the ledger's equations, fail otherwise.", each line mod its q
+-- "Pass if the described vectors are those that solve the ledger's equations, fail otherwise.", each line mod its q; and "right but long"
 abbrev pub claimMark : Ledger → List ℕ → Mark
-claimMark l ws = cond (lineIsRight (modulusOf l) (unknownsOf l) (linesIn l) (claimFrom (unknownsOf l) (wordsIn ws))) Pass Fail
+claimMark l ws = lineMark (modulusOf l) (unknownsOf l) (linesIn l) (claimFrom (unknownsOf l) (wordsIn ws))
 
 -- "The tool gives the first of these that holds"
 abbrev pub claimReason : Ledger → List ℕ → Reason
@@ -33,6 +31,7 @@ shownKind Unsolvable = multiplierKind
 shownKind (Breaks equation) = entryKind
 shownKind (Changes step equation) = entryKind
 shownKind Misses = entryKind
+shownKind (Superfluous step) = entryKind
 
 unfoldable pub reasonWords : Ledger → List ℕ → List ℕ
 reasonWords l ws = wordsOf (shownKind (claimReason l ws)) (reasonNumbers l ws)

@@ -16,7 +16,7 @@ use Rattle.congruence.specs.declared.Solved.the-variants.{Refused, NoSolution, 
 use Rattle.congruence.specs.Congruence.{congruenceOf}
 use Rattle.equations.specs.Lines.{equationsOf}
 use Rattle.equations.specs.Multipliers.{allBelow}
-use Rattle.equations.specs.Claim.{markNumber}
+use Rattle.equations.specs.Marks.{markNumber}
 use Rattle.equations.specs.Reasons.{reasonNumber, placesIn}
 use Rattle.system.specs.Block.{blockOf}
 use Rattle.ledger.specs.Ledger.{Ledger, mostEquations}
@@ -41,12 +41,12 @@ use Rattle.tape.specs.Output.{mostBytes, lines}
 abbrev pub minus : ℕ → ℤ
 minus k = negℤ (pos k)
 
--- 10,000 times the major, 100 times the minor and the patch number: 2.4.0
+-- 10,000 times the major, 100 times the minor and the patch number: 3.0.0
 abbrev pub version : ℕ
-version = 20400
+version = 30000
 
--- What the calls on a sheet give back, as a result: "the equations then held", how many words the block has, 1 for a pass and 0 for a
--- fail, or how many claims a class has; or minus the number of the refusal.
+-- What the calls on a sheet give back, as a result: "the equations then held", how many words the block has, 1 for a pass, 2 for a
+-- long claim and 0 for a fail, or how many claims a class has; or minus the number of the refusal.
 unfoldable pub enteredResult : Entered → ℤ
 enteredResult (Holds k) = pos k
 enteredResult (Entered·Refused k) = minus k
@@ -63,7 +63,7 @@ unfoldable pub classedResult : Classed → ℤ
 classedResult (Claims k) = pos k
 classedResult (Classed·Refused k) = minus k
 
--- A reason's number, which is 0 for a claim that passes.
+-- A reason's number, which is 0 for a claim that passes and 6 for a long one.
 unfoldable pub reasonedResult : Reasoned → ℤ
 reasonedResult (Gives reason k) = pos (reasonNumber reason)
 reasonedResult (Reasoned·Refused k) = minus k

@@ -29,7 +29,7 @@ const FEW: u32 = 4;
 const FEW_NUMBERS: usize = 20;
 
 // The header's: 10,000 · 2 + 100 · 4 + 0.
-const VERSION: u32 = 20400;
+const VERSION: u32 = 30000;
 
 #[no_mangle]
 pub extern "C" fn milebadger_version() -> u32

@@ -82,5 +82,10 @@ fn named_by(reason: Reason) -> Named
             step: 0,
             equation: 0,
         },
+        Reason::Superfluous(needless) => Named {
+            number: 6,
+            step: needless,
+            equation: 0,
+        },
     }
 }

@@ -4,7 +4,7 @@ ghost use mathlib.Core.List.{_∷_};
 ghost use Prim.Native.Nat.{_≤_};
 ghost use lib.IntN.{pos};
 ghost use Rattle.questions.specs.Reply.{gives};
-ghost use Rattle.equations.specs.Claim.{markNumber};
+ghost use Rattle.equations.specs.Marks.{markNumber};
 ghost use Rattle.ledger.specs.Ledger.{mostEquations};
 ghost use Rattle.sheet.specs.View.{heldBy};
 ghost use Rattle.milebadger.specs.Calls.{minus, Replied, blockReply, enteredResult};
@@ -55,6 +55,7 @@ pub(crate) fn mark_result(mark: Mark) -> i64
 {
     match mark {
         Mark::Pass => 1,
+        Mark::Long => 2,
         Mark::Fail => 0,
     }
 }

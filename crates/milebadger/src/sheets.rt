@@ -71,7 +71,7 @@ pub extern "C" fn milebadger_answer(sheet: &[u32; Sheet::SIZE], out: &mut [u32])
     }
 }
 
-// Marks a claim: 1 for a pass, 0 for a fail.
+// Marks a claim: 1 for a pass, 2 for a right one with a superfluous step, 0 for a fail.
 #[no_mangle]
 pub extern "C" fn milebadger_mark(sheet: &[u32; Sheet::SIZE], words: &[u32]) -> i64
     ensures { λ r. ⌜ r ≡ markedResult (markedOf (ledgerOf (now (sheet .entry))) (now (words .entry))) ⌝ }
@@ -83,7 +83,7 @@ pub extern "C" fn milebadger_mark(sheet: &[u32; Sheet::SIZE], words: &[u32]) -> 
     }
 }
 
-// Gives the reason why a claim fails: its number, which is 0 where the claim passes. The step, the equation and the number of words go to
+// Gives the reason why a claim fails or is long: its number, which is 0 where the claim passes. The step, the equation and the number of words go to
 // `at`, and the words that show a solution or multipliers to `out`.
 #[no_mangle]
 pub extern "C" fn milebadger_reason(

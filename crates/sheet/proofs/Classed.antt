@@ -15,10 +15,11 @@ use Rattle.slices.proofs.Over.{over-past, over-long}
 use Rattle.questions.specs.Questions.{unlessRefused}
 use Rattle.questions.proofs.Given.{TurnsAway, alone}
 use Rattle.equations.specs.declared.Mark.{Mark}
-use Rattle.equations.specs.declared.Mark.the-variants.{Pass, Fail}
+use Rattle.equations.specs.declared.Mark.the-variants.{Pass, Long, Fail}
 use Rattle.equations.specs.Line.{Line}
-use Rattle.equations.specs.Claim.{markNumber}
+use Rattle.equations.specs.Marks.{markNumber}
 use Rattle.equations.specs.Multipliers.{allBelow}
+use Rattle.equations.proofs.Marks.{Apart}
 use Rattle.words.specs.Words.{wordsIn}
 use Rattle.ledger.specs.Ledger.{Ledger, opened}
 use Rattle.ledger.specs.Shapes.{isClaim, entriesOf, claimFrom}
@@ -32,15 +33,19 @@ use Rattle.sheet.specs.declared.marking.Marked.the-variants.{Gets, Refus
 use Rattle.sheet.specs.declared.classing.Classed.the-variants.{Claims}
 use Rattle.sheet.specs.Record.{Sheet, ledgerOf}
 use Rattle.sheet.specs.Calls.{markedOf, markByte, classBytes, classedOf, marksAfter}
-use Rattle.sheet.specs.Promises.{WellFormed, DescribesSolutions, RightByte, RightMarks, RightClass, StrayWords}
-use Rattle.sheet.proofs.Marks.{marked-accepted, well-accepted, mark-tells}
+use Rattle.sheet.specs.Promises.{WellFormed, RightMark, RightByte, RightMarks, RightClass, StrayWords}
+use Rattle.sheet.proofs.Marks.{marked-accepted, well-accepted, claim-tells}
 use Rattle.sheet.proofs.Classes.{map-at, bytes-count, class-few, class-fits, class-accepted, class-marked}
 
 -- ---- one byte
 
-mark-small : (mark : Mark) → markNumber mark < 2
+mark-small : (mark : Mark) → markNumber mark < 3
 mark-small Pass = omega arith
+mark-small Long = omega arith
 mark-small Fail = omega arith
+
+numbers-apart : Apart markNumber
+numbers-apart = record { pass-fail = λ same. omega arith; long-fail = λ same. omega arith; pass-long = λ same. omega arith }
 
 -- a byte above 100 is "the refusal number plus 100"
 by-refusal : (r k : ℕ) (mark : Mark) → 0 < k → (markByte (unlessRefused Marked·Refused r (Gets mark)) ≡ 100 + k) ↔ (r ≡ k)
@@ -71,20 +76,15 @@ module _ (m n : ℕ) (ls : List Line) (ws : List ℕ) where
   not-below : (byte ≡ 106) ↔ (T shape × (T below → ⊥))
   not-below = let given = asked 6 2 tt tt in ((λ e. given .0 e .1), λ both. given .1 (tt, both))
 
-  abbrev Right : Type 0
-  Right = DescribesSolutions m n ls (claimFrom n (wordsIn ws))
-
-  -- of a well-formed claim it is the number of the mark, which tells whether the claim is right
-  tells-mark : 0 < m → WellFormed m n ws → ((byte ≡ 1) ↔ Right) × ((byte ≡ 0) ↔ (Right → ⊥))
+  -- of a well-formed claim it is the number of the mark
+  tells-mark : 0 < m → WellFormed m n ws → RightMark markNumber m n ls (claimFrom n (wordsIn ws)) byte
   tells-mark pos well =
-      rw (marked-accepted (opened m n ls) ws (well-accepted m n ls ws well))
-      (mark-tells m n ls pos ws well markNumber (λ same. omega arith))
+      rw (marked-accepted (opened m n ls) ws (well-accepted m n ls ws well)) (claim-tells m n ls pos ws well markNumber numbers-apart)
 
   right-byte : 0 < m → RightByte m n ls ws byte
   right-byte pos =
       record {
-        passed = λ well. tells-mark pos well .0;
-        failed = λ well. tells-mark pos well .1;
+        marked = tells-mark pos;
         misshapen = misshapen;
         notBelow = not-below;
       }

@@ -6,7 +6,6 @@
 --   marked-as              and so they are,
 --   explained-as           or explained
 use mathlib.Core.Path.{_≡_, sym, ap, ap₂, _∙_}
-use mathlib.Core.Bool.{Bool, cond}
 use mathlib.Core.List.{List, [], _∷_, _++_}
 use Prim.Native.Nat.{ℕ, suc, _+_, _-_, _*_, _≤_}
 use native.Mathlib.Numerals.{add-one}
@@ -16,13 +15,14 @@ use lib.Dec.{T}
 use lib.ListN.{length, take, drop, getD}
 use lib.Seq.{take-at}
 use Rattle.slices.specs.Over.{over}
-use Rattle.equations.specs.declared.Mark.the-variants.{Pass, Fail}
+use Rattle.equations.specs.declared.Mark.{Mark}
 use Rattle.equations.specs.Equation.{Equation}
-use Rattle.equations.specs.Claim.{Claim, isRight}
+use Rattle.equations.specs.Claim.{Claim}
+use Rattle.equations.specs.Marks.{markOf}
 use Rattle.equations.specs.Reasons.{reasonOf}
-use Rattle.equations.specs.Line.{lineIsRight, scaled}
+use Rattle.equations.specs.Line.{lineMark, scaled}
 use Rattle.equations.specs.LineReasons.{lineReason}
-use Rattle.equations.proofs.LineAnswer.{line-right}
+use Rattle.equations.proofs.LineAnswer.{line-mark}
 use Rattle.equations.proofs.LineReasons.{line-reason}
 use Rattle.system.specs.declared.explaining.Finding.{Finding}
 use Rattle.system.specs.Claims.{Claimed, claimOf}
@@ -108,15 +108,15 @@ module _ (l : Ledger) (ws : List ℕ) (accepted : refusalOf l (queries (marks ws
         abbrev read : Claim
         read = claimOf (unknownsOf l) (entriesOf (wordsIn ws))
 
-        pub marked-as : (result : Bool)
-            → result ≡ isRight (see .modulus) (see .unknowns) es (claimOf (see .unknowns) (take (h * see .unknowns + 1 - 1) (drop 1 new)))
-            → Gets (cond result Pass Fail) ≡ markedOf l ws
+        pub marked-as : (result : Mark)
+            → result ≡ markOf (see .modulus) (see .unknowns) es (claimOf (see .unknowns) (take (h * see .unknowns + 1 - 1) (drop 1 new)))
+            → Gets result ≡ markedOf l ws
         unfolding markedOf
         marked-as result is =
-            let decided : result ≡ lineIsRight m n (linesIn l) read =
+            let decided : result ≡ lineMark m n (linesIn l) read =
             is
             ∙ (rw (entries-are, same-es, sees .modulus, sees .unknowns)
-            (sym (line-right m n (omega (arith, allowed .modulus)) (linesIn l) (allowed .moduli) read))) in
+            (sym (line-mark m n (omega (arith, allowed .modulus)) (linesIn l) (allowed .moduli) read))) in
             rw (accepted, decided)
 
         found-reason : reasonOf m n (scaled m (linesIn l)) read ≡ lineReason m n (linesIn l) read

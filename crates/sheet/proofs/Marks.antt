@@ -2,13 +2,12 @@
 --   marked-accepted    an accepted claim gets its mark,
 --   mark-accepted, mark-refused   and what is said tells whether it is accepted, or why not
 --   well-accepted      a well-formed claim is accepted
---   mark-decides       what is a function of its mark tells whether it passes,
---   mark-tells         and so whether it describes the solutions of the ledger's lines
+--   claim-tells        what shows the three marks apart tells whether the claim describes the solutions of the ledger's lines, and whether
+--                      a step is superfluous
 --   right-mark         so it is marked
---   own-mark           an answer's own words, where there is a solution, are passed
-use mathlib.Core.Path.{_≡_, refl, ap, _∙_}
+--   own-mark           an answer's own words, where there is a solution, pass or are long
+use mathlib.Core.Path.{_≡_, refl, _∙_}
 use mathlib.Core.Logic.{_↔_, _⊎_, inl, inr}
-use mathlib.Core.Bool.{Bool, true, false, cond}
 use mathlib.Core.List.{List}
 use mathlib.Core.Option.{some}
 use Prim.Native.Nat.{ℕ, _<_, _≤_}
@@ -16,10 +15,10 @@ use native.Mathlib.Omega.{arith}
 use lib.Dec.{T}
 use Rattle.questions.proofs.Questions.{unless-either}
 use Rattle.equations.specs.declared.Mark.{Mark}
-use Rattle.equations.specs.declared.Mark.the-variants.{Pass, Fail}
-use Rattle.equations.specs.Line.{Line, Moduli, lineStart, lineIsRight}
+use Rattle.equations.specs.Line.{Line, Moduli, lineStart, lineIsRight, lineMark}
 use Rattle.equations.specs.Multipliers.{allBelow}
-use Rattle.equations.proofs.Truth.{true-of, cond-tells}
+use Rattle.equations.proofs.Truth.{true-of}
+use Rattle.equations.proofs.Marks.{Apart, mark-tells}
 use Rattle.equations.proofs.LineAnswer.{line-right-described}
 use Rattle.equations.proofs.LinePromises.{line-own-answer}
 use Rattle.system.proofs.Claims.{claim-described}
@@ -35,7 +34,7 @@ use Rattle.ledger.proofs.Refusals.{marks-accepted}
 use Rattle.ledger.proofs.Own.{own-shape, own-entries, own-claim}
 use Rattle.sheet.specs.declared.marking.Marked.the-variants.{Gets, Refused}
 use Rattle.sheet.specs.Calls.{markedOf}
-use Rattle.sheet.specs.Promises.{WellFormed, DescribesSolutions, RightMark}
+use Rattle.sheet.specs.Promises.{WellFormed, DescribesSolutions, RightMark, OwnMark}
 
 pub marked-accepted : (l : Ledger) (ws : List ℕ) → refusalOf l (queries (marks ws)) ≡ 0 → markedOf l ws ≡ Gets (claimMark l ws)
 unfolding markedOf
@@ -62,13 +61,12 @@ module _ (l : Ledger) (ws : List ℕ) where
       by (inl (none, same)) = let z : _≡_ {A = ℕ} 0 1 = cc in absurd (omega arith)
       by (inr (refused, same)) = let e : asked ≡ k = cc in (e, λ z. refused (e ∙ z))
 
-pub pass-or-fail : Gets Pass ≡ Gets Fail → ⊥
-pass-or-fail same = let z : _≡_ {A = ℕ} 0 1 = cc in omega arith
-
--- a function of a mark
-by-test : {A : Type 0} (f : Mark → A) (b : Bool) → f (cond b Pass Fail) ≡ cond b (f Pass) (f Fail)
-by-test f true = refl
-by-test f false = refl
+gets-apart : Apart Gets
+gets-apart = record {
+  pass-fail = λ same. let z : _≡_ {A = ℕ} 0 1 = cc in omega arith;
+  long-fail = λ same. let z : _≡_ {A = ℕ} 0 1 = cc in omega arith;
+  pass-long = λ same. let z : _≡_ {A = ℕ} 0 1 = cc in omega arith;
+}
 
 module _ (m n : ℕ) (ls : List Line) where
   pub well-accepted : (ws : List ℕ) → WellFormed m n ws → refusalOf (opened m n ls) (queries (marks ws)) ≡ 0
@@ -82,31 +80,25 @@ module _ (m n : ℕ) (ls : List Line) where
       line-right-described m n ls (claimFrom n (wordsIn ws))
       (claim-described m n (entriesOf (wordsIn ws)) pos (claimed n ws (well .0) m (well .1)))
 
-  -- whatever tells the two marks apart tells what decides whether the claim passes
-  pub mark-decides : (ws : List ℕ) {P : Type 0} → T (lineIsRight m n ls (claimFrom n (wordsIn ws))) ↔ P → {A : Type 0} (f : Mark → A)
-      → (f Pass ≡ f Fail → ⊥)
-      → ((f (claimMark (opened m n ls) ws) ≡ f Pass) ↔ P) × ((f (claimMark (opened m n ls) ws) ≡ f Fail) ↔ (P → ⊥))
-  mark-decides ws same f apart =
-      rw (by-test f (lineIsRight m n ls (claimFrom n (wordsIn ws))))
-      (cond-tells (f Pass) (f Fail) apart (lineIsRight m n ls (claimFrom n (wordsIn ws))) same)
-
-  pub mark-tells : 0 < m → (ws : List ℕ) → WellFormed m n ws → {A : Type 0} (f : Mark → A) → (f Pass ≡ f Fail → ⊥)
-      → ((f (claimMark (opened m n ls) ws) ≡ f Pass) ↔ DescribesSolutions m n ls (claimFrom n (wordsIn ws)))
-      × ((f (claimMark (opened m n ls) ws) ≡ f Fail) ↔ (DescribesSolutions m n ls (claimFrom n (wordsIn ws)) → ⊥))
-  mark-tells pos ws well = mark-decides ws (well-described pos ws well)
+  -- of a well-formed claim
+  pub claim-tells : 0 < m → (ws : List ℕ) → WellFormed m n ws → {A : Type 0} (shown : Mark → A) → Apart shown
+      → RightMark shown m n ls (claimFrom n (wordsIn ws)) (shown (claimMark (opened m n ls) ws))
+  unfolding lineMark
+  claim-tells pos ws well shown apart =
+      let claim = claimFrom n (wordsIn ws) in
+      mark-tells shown apart m n claim (lineIsRight m n ls claim) (well-described pos ws well)
 
   pub right-mark : 0 < m → (ws : List ℕ) → WellFormed m n ws
-      → RightMark m n ls (claimFrom n (wordsIn ws)) (markedOf (opened m n ls) ws)
+      → RightMark Gets m n ls (claimFrom n (wordsIn ws)) (markedOf (opened m n ls) ws)
   right-mark pos ws well =
-      let both = mark-tells pos ws well Gets pass-or-fail in
-      rw (marked-accepted (opened m n ls) ws (well-accepted ws well)) (record { passed = both .0; failed = both .1 })
+      rw (marked-accepted (opened m n ls) ws (well-accepted ws well)) (claim-tells pos ws well Gets gets-apart)
 
   pub own-mark : 0 < m → Moduli m ls → m ≤ numbersOfAKind → 0 < n → n ≤ 16 → (c : List ℕ) → lineStart m n ls ≡ some c
-      → markedOf (opened m n ls) (answerWords (opened m n ls)) ≡ Gets Pass
+      → OwnMark (markedOf (opened m n ls) (answerWords (opened m n ls)))
   own-mark pos moduli largest one unknowns c start =
-      marked-accepted (opened m n ls) (answerWords (opened m n ls))
-      (well-accepted (answerWords (opened m n ls))
-      (own-shape m n pos ls moduli largest c start unknowns, own-entries m n pos ls moduli largest c start))
-      ∙ ap (λ (b : Bool). Gets (cond b Pass Fail))
-      (ap (lineIsRight m n ls) (own-claim m n pos ls moduli largest c start one)
-      ∙ true-of _ (line-own-answer m n ls pos moduli .0 c start))
+      let words = answerWords (opened m n ls) in
+      let well : WellFormed m n words =
+      (own-shape m n pos ls moduli largest c start unknowns, own-entries m n pos ls moduli largest c start) in
+      right-mark pos words well .right .1
+      (well-described pos words well .0
+      (rw (own-claim m n pos ls moduli largest c start one) (line-own-answer m n ls pos moduli .0 c start)))

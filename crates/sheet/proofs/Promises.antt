@@ -2,7 +2,7 @@
 --   right-always        where memory reads as an opened sheet, answers and marks are right
 --   demand3             so they are after every list with an accepted opening
 --   decided-always      after every list of calls the ledger's questions decide the next one
---   own-block-passes    an answer's own block passes
+--   own-block-right     an answer's own block passes or is long
 --   added-always        an equation in words is added as document 02 says, minus signs and large numbers included,
 --   typed-always        and a typed one is turned away or added so
 --   struck-always       a strike at any place leaves the other lines in order, and the answer is theirs
@@ -42,7 +42,7 @@ use Rattle.sheet.specs.declared.marking.Marked.the-variants.{Gets}
 use Rattle.sheet.specs.Record.{Sheet, fresh, ledgerOf}
 use Rattle.sheet.specs.Calls.{enteredOf, answeredOf, bufferAfter, shownOf, markedOf, reasonedOf, shownAfter, classedOf, marksAfter}
 use Rattle.sheet.specs.History.{sheetFrom, after}
-use Rattle.sheet.specs.Promises.{NothingSolves, Shows, RightMark, RightSheet, Demand3, DecidedAlways, OwnBlockPasses, ZerosAreFresh, RightAlways, ReadsOn, AddedAlways, TypedAlways, StruckAlways, ReasonAlways, SameRefusals, ClassAlways, StrayWords}
+use Rattle.sheet.specs.Promises.{NothingSolves, Shows, RightMark, OwnMark, RightSheet, Demand3, DecidedAlways, OwnBlockRight, ZerosAreFresh, RightAlways, ReadsOn, AddedAlways, TypedAlways, StruckAlways, ReasonAlways, SameRefusals, ClassAlways, StrayWords}
 use Rattle.sheet.proofs.Reading.{reads-allowed}
 use Rattle.sheet.proofs.History.{from-reads, fresh-unopened, after-reads, left-refused}
 use Rattle.sheet.proofs.Solved.{solved-words, shown-block}
@@ -96,12 +96,12 @@ module _ (s : Sheet) (m n : ℕ) (ls : List Line) (reads : ledgerOf s ≡ opened
         answerFromTape = λ w none.
             subst (λ (l : Ledger). Shows block (shownOf l w)) (sym reads) (shows w (eqb→eq (wordOf w .number) 0 none));
         mark = λ ws well.
-            subst (λ (l : Ledger). RightMark m n ls (claimFrom n (wordsIn ws)) (markedOf l ws)) (sym reads)
+            subst (λ (l : Ledger). RightMark Gets m n ls (claimFrom n (wordsIn ws)) (markedOf l ws)) (sym reads)
             (right-mark m n ls positive ws well);
       }
 
-  own-passes : (NothingSolves m n ls → ⊥) → markedOf (opened m n ls) block ≡ Gets Pass
-  own-passes solvable =
+  own-right : (NothingSolves m n ls → ⊥) → OwnMark (markedOf (opened m n ls) block)
+  own-right solvable =
       ⊎-elim (λ h. absurd (solvable (line-no-start m n ls .0 h)))
       (λ found. own-mark m n ls positive (allowed .moduli) (omega (arith, allowed .largest)) (omega (arith, allowed .hasUnknowns))
       (allowed .unknowns) (found .0) (found .1))
@@ -143,15 +143,16 @@ class-always s m n ls ws old reads = right-class m n ls (positive s m n ls reads
 pub stray-words : StrayWords
 stray-words = right-strays
 
-pub own-block-passes : OwnBlockPasses
-own-block-passes calls m n ls old holds solvable h =
+pub own-block-right : OwnBlockRight
+own-block-right calls m n ls old holds solvable h =
     let reads = after-reads calls ∙ holds in
     let block = answerWords (opened m n ls) in
     let size : length (answerWords (ledger calls)) ≡ length block = ap (λ (l : Ledger). length (answerWords l)) holds in
-    ap₂ markedOf reads
+    subst OwnMark
+    (sym (ap₂ markedOf reads
     (over-front (length (answerWords (ledger calls))) block old
-    (wrote (after calls) m n ls reads old (omega (arith, size, h)) .1) (sym size))
-    ∙ own-passes (after calls) m n ls reads solvable
+    (wrote (after calls) m n ls reads old (omega (arith, size, h)) .1) (sym size))))
+    (own-right (after calls) m n ls reads solvable)
 
 -- ---- what the questions decide
 

@@ -1,19 +1,17 @@
--- What document 02 says of a reason, S-5.
---   right-reason    a well-formed claim gives no reason exactly where it passes, and the reason that it gives is true
+-- What document 02 says of a reason, S-5 and S-8.
+--   right-reason    the reason of a well-formed claim goes with its mark, and is true
 --   same-refusal    what marking turns away is turned away with the same number
 use mathlib.Core.Path.{_≡_, refl, sym, ap, subst, _∙_}
-use mathlib.Core.Logic.{_↔_}
 use mathlib.Core.List.{List}
 use Prim.Native.Nat.{ℕ, _<_, _≤_}
 use native.Mathlib.Omega.{arith}
 use lib.ListN.{length, length-map}
 use Rattle.slices.specs.Over.{over}
-use Rattle.equations.specs.declared.Mark.the-variants.{Pass, Fail}
 use Rattle.equations.specs.declared.Reason.{Reason}
-use Rattle.equations.specs.declared.Reason.the-variants.{Passes}
+use Rattle.equations.specs.Reasons.{markBeside}
 use Rattle.equations.specs.Line.{Line}
 use Rattle.system.proofs.Claims.{claim-formed}
-use Rattle.system.proofs.Lines.{no-line-reason}
+use Rattle.system.proofs.Lines.{same-line-verdict}
 use Rattle.words.specs.Words.{word, wordsIn, wordsOf}
 use Rattle.ledger.specs.Ledger.{Ledger, opened}
 use Rattle.ledger.specs.Allowed.{Allowed}
@@ -27,7 +25,7 @@ use Rattle.sheet.specs.declared.reasoning.Reasoned.the-variants.{Gives, 
 use Rattle.sheet.specs.Record.{Sheet, ledgerOf}
 use Rattle.sheet.specs.Calls.{markedOf, reasonedOf, shownAfter}
 use Rattle.sheet.specs.Promises.{WellFormed, RightReason}
-use Rattle.sheet.proofs.Marks.{pass-or-fail, marked-accepted, mark-refused, well-accepted, mark-decides}
+use Rattle.sheet.proofs.Marks.{marked-accepted, mark-refused, well-accepted}
 use Rattle.sheet.proofs.Reasoned.{reason-says, show-short, show-wrote, reason-refused, reason-shown}
 
 module _ (m n : ℕ) (ls : List Line) (ws : List ℕ) (allowed : Allowed m n ls) (well : WellFormed m n ws) where
@@ -46,12 +44,11 @@ module _ (m n : ℕ) (ls : List Line) (ws : List ℕ) (allowed : Allowed m n ls)
   accepted : refusalOf (opened m n ls) (queries (marks ws)) ≡ 0
   accepted = well-accepted m n ls ws well
 
-  tells : ((markedOf (opened m n ls) ws ≡ Gets Pass) ↔ (claimReason (opened m n ls) ws ≡ Passes))
-      × ((markedOf (opened m n ls) ws ≡ Gets Fail) ↔ (claimReason (opened m n ls) ws ≡ Passes → ⊥))
-  tells =
-      let none = no-line-reason m n ls (claimFrom n (wordsIn ws)) (omega (arith, allowed .modulus)) (allowed .moduli) (allowed .shaped)
-      (claim-formed m n (entriesOf (wordsIn ws)) (claimed n ws (well .0) m (well .1))) in
-      rw (marked-accepted l ws accepted) (mark-decides m n ls ws (none .1, none .0) Gets pass-or-fail)
+  verdict : markedOf (opened m n ls) ws ≡ Gets (markBeside (claimReason (opened m n ls) ws))
+  verdict =
+      marked-accepted l ws accepted
+      ∙ sym (ap Gets (same-line-verdict m n ls (claimFrom n (wordsIn ws)) (omega (arith, allowed .modulus)) (allowed .moduli) (allowed .shaped)
+      (claim-formed m n (entriesOf (wordsIn ws)) (claimed n ws (well .0) m (well .1)))))
 
   count : length words ≡ length shown
   count = length-map shown (word (shownKind reason))
@@ -71,8 +68,7 @@ module _ (m n : ℕ) (ls : List Line) (ws : List ℕ) (allowed : Allowed m n ls)
   right-reason s reads =
       record {
         reason = reason;
-        passed = subst (λ (k : Ledger). (markedOf k ws ≡ Gets Pass) ↔ (reason ≡ Passes)) (sym reads) (tells .0);
-        failed = subst (λ (k : Ledger). (markedOf k ws ≡ Gets Fail) ↔ (reason ≡ Passes → ⊥)) (sym reads) (tells .1);
+        verdict = ap (λ (k : Ledger). markedOf k ws) reads ∙ verdict;
         shown = shown;
         says = reason-says l ws accepted allowed;
         given = λ old long.

@@ -7,7 +7,7 @@ use lib.ListN.{length, replicate}
 use Rattle.questions.specs.Questions.{asks, firstNo, unlessRefused}
 use Rattle.questions.specs.Reply.{Reply, gives, refuses, resultOf, memoryAfter}
 use Rattle.equations.specs.declared.Reason.{Reason}
-use Rattle.equations.specs.Claim.{markNumber}
+use Rattle.equations.specs.Marks.{markNumber}
 use Rattle.system.specs.declared.solving.Answer.{Answer}
 use Rattle.system.specs.Block.{answerFrom}
 use Rattle.system.specs.Lines.{lineBlock}
@@ -79,7 +79,7 @@ reasonedOf l ws old = resultOf Reasoned·Refused (reasonReply l ws) old
 unfoldable pub shownAfter : Ledger → List ℕ → List ℕ → List ℕ
 shownAfter l ws old = memoryAfter (reasonReply l ws) old
 
--- A class. "a byte per claim receives 0 fail, 1 pass or the refusal number plus 100"
+-- A class. "a byte per claim receives 0 fail, 1 pass or the refusal number plus 100"; `long` is "2 in the class bytes"
 abbrev pub markByte : Marked → ℕ
 markByte (Gets mark) = markNumber mark
 markByte (Marked·Refused k) = 100 + k

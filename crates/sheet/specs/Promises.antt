@@ -18,10 +18,12 @@ use Rattle.residue.specs.Divides.{Divides}
 use Rattle.equations.specs.Vectors.{Vector}
 use Rattle.equations.specs.Whole.{HoldsWhole}
 use Rattle.equations.specs.Multipliers.{allBelow}
-use Rattle.equations.specs.declared.Mark.the-variants.{Pass, Fail}
+use Rattle.equations.specs.declared.Mark.{Mark}
+use Rattle.equations.specs.declared.Mark.the-variants.{Pass, Long}
 use Rattle.equations.specs.declared.Reason.{Reason}
-use Rattle.equations.specs.declared.Reason.the-variants.{Passes}
 use Rattle.equations.specs.Claim.{Claim, describes}
+use Rattle.equations.specs.Marks.{markNumber, HasSuperfluous, Tells}
+use Rattle.equations.specs.Reasons.{markBeside}
 use Rattle.equations.specs.Line.{Line, holdsOne, holds, lineStart, lineSteps, lineRefutes}
 use Rattle.equations.specs.LineReasons.{LineSays}
 use Rattle.system.specs.Block.{answerFrom}
@@ -88,10 +90,10 @@ WellFormed m n ws = T (isClaim n (wordsIn ws)) × T (allBelow m (entriesOf (word
 abbrev pub DescribesSolutions : ℕ → ℕ → List Line → Claim → Type 0
 DescribesSolutions m n ls claim = (v : List ℕ) → T (describes m claim v) ↔ (Vector m n v × T (holds ls v))
 
--- "passed exactly when the vectors it describes are the vectors that solve all those equations, and failed otherwise"
-pub record RightMark (m n : ℕ) (ls : List Line) (claim : Claim) (marked : Marked) : Type 0 where
-  pub passed : (marked ≡ Gets Pass) ↔ DescribesSolutions m n ls claim
-  pub failed : (marked ≡ Gets Fail) ↔ (DescribesSolutions m n ls claim → ⊥)
+-- "passed exactly when the vectors it describes are the vectors that solve all those equations, and failed otherwise", with "pass or long
+-- where it says passed": x is what the claim gets, and `shown` how a mark looks
+abbrev pub RightMark : {A : Type 0} → (Mark → A) → ℕ → ℕ → List Line → Claim → A → Type 0
+RightMark shown m n ls claim x = Tells shown (DescribesSolutions m n ls claim) (HasSuperfluous m n claim) x
 
 -- What demand 3 says of a sheet whose ledger has m, n and ls.
 pub record RightSheet (s : Sheet) (m n : ℕ) (ls : List Line) : Type 0 where
@@ -108,7 +110,7 @@ pub record RightSheet (s : Sheet) (m n : ℕ) (ls : List Line) : Type 0 where
   pub answerFromTape : (w : ℕ) → T (plain w) → Shows block (shownOf (ledgerOf s) w)
   -- "And a well-formed claim marked then"
   pub mark : (ws : List ℕ) → WellFormed m n ws
-      → RightMark m n ls (claimFrom n (wordsIn ws)) (markedOf (ledgerOf s) ws)
+      → RightMark Gets m n ls (claimFrom n (wordsIn ws)) (markedOf (ledgerOf s) ws)
 
 -- What demand 3 says after a list of calls.
 pub record Promised (calls : List Call) : Type 0 where
@@ -161,13 +163,15 @@ pub record Decided (calls : List Call) : Type 0 where
 abbrev pub DecidedAlways : Type 0
 DecidedAlways = (calls : List Call) → Decided calls
 
--- The block that an answer wrote, given to mark from the same buffer, passes where there is a solution.
-abbrev pub OwnBlockPasses : Type 0
-OwnBlockPasses =
+-- The block that an answer wrote, given to mark from the same buffer, is right where there is a solution: "Our own answers may be long".
+abbrev pub OwnMark : Marked → Type 0
+OwnMark marked = (marked ≡ Gets Pass) ⊎ (marked ≡ Gets Long)
+
+abbrev pub OwnBlockRight : Type 0
+OwnBlockRight =
     (calls : List Call) (m n : ℕ) (ls : List Line) (old : List ℕ)
     → ledger calls ≡ opened m n ls → (NothingSolves m n ls → ⊥) → length (answerWords (ledger calls)) ≤ length old
-    → markedOf (ledgerOf (after calls)) (take (length (answerWords (ledger calls))) (bufferAfter (ledgerOf (after calls)) old))
-    ≡ Gets Pass
+    → OwnMark (markedOf (ledgerOf (after calls)) (take (length (answerWords (ledger calls))) (bufferAfter (ledgerOf (after calls)) old)))
 
 -- Zeroed memory is a sheet on which no call was made yet, and it is unopened.
 abbrev pub ZerosAreFresh : Type 0
@@ -228,12 +232,11 @@ pub record RightStriking (s : Sheet) (m n : ℕ) (ls : List Line) (place : ℕ) 
 abbrev pub StruckAlways : Type 0
 StruckAlways = (s : Sheet) (m n : ℕ) (ls : List Line) (place : ℕ) → ledgerOf s ≡ opened m n ls → RightStriking s m n ls place
 
--- What document 02 says of the reason of a well-formed claim, S-5, on a sheet whose ledger has m, n and ls.
+-- What document 02 says of the reason of a well-formed claim, S-5 and S-8, on a sheet whose ledger has m, n and ls.
 pub record RightReason (s : Sheet) (m n : ℕ) (ls : List Line) (ws : List ℕ) : Type 0 where
-  -- "A passed claim gives no reason, and each failed one gives a reason"
+  -- "A passed claim gives no reason, and each failed one gives a reason"; "for a long claim, the number of its first superfluous step"
   pub reason : Reason
-  pub passed : (markedOf (ledgerOf s) ws ≡ Gets Pass) ↔ (reason ≡ Passes)
-  pub failed : (markedOf (ledgerOf s) ws ≡ Gets Fail) ↔ (reason ≡ Passes → ⊥)
+  pub verdict : markedOf (ledgerOf s) ws ≡ Gets (markBeside reason)
   -- "that is true as stated", with the numbers that are shown
   pub shown : List ℕ
   pub says : LineSays m n ls (claimFrom n (wordsIn ws)) reason shown
@@ -256,11 +259,11 @@ SameRefusals =
     (s : Sheet) (ws old : List ℕ) (k : ℕ) → markedOf (ledgerOf s) ws ≡ Marked·Refused k
     → (reasonedOf (ledgerOf s) ws old ≡ Reasoned·Refused k) × (shownAfter (ledgerOf s) ws old ≡ old)
 
--- What the byte of a claim in words says, on a ledger that has m, n and ls: "0 fail, 1 pass or the refusal number plus 100".
+-- What the byte of a claim in words says, on a ledger that has m, n and ls: "0 fail, 1 pass or the refusal number plus 100", and 2 for
+-- `long`.
 pub record RightByte (m n : ℕ) (ls : List Line) (ws : List ℕ) (byte : ℕ) : Type 0 where
-  -- of a well-formed claim 1 exactly where "the vectors it describes are the vectors that solve all those equations", and 0 otherwise
-  pub passed : WellFormed m n ws → (byte ≡ 1) ↔ DescribesSolutions m n ls (claimFrom n (wordsIn ws))
-  pub failed : WellFormed m n ws → (byte ≡ 0) ↔ (DescribesSolutions m n ls (claimFrom n (wordsIn ws)) → ⊥)
+  -- of a well-formed claim it is the number of its mark
+  pub marked : WellFormed m n ws → RightMark markNumber m n ls (claimFrom n (wordsIn ws)) byte
   -- "Shape right? 1. Entries below m? 6."
   pub misshapen : (byte ≡ 101) ↔ (T (isClaim n (wordsIn ws)) → ⊥)
   pub notBelow : (byte ≡ 106) ↔ (T (isClaim n (wordsIn ws)) × (T (allBelow m (entriesOf (wordsIn ws))) → ⊥))

@@ -3,7 +3,7 @@ ghost use mathlib.Core.Path.{_≡_};
 ghost use Prim.Native.Nat.{_≤_};
 ghost use lib.ListN.{length};
 ghost use Rattle.slices.specs.Over.{over};
-ghost use Rattle.equations.specs.Claim.{markNumber};
+ghost use Rattle.equations.specs.Marks.{markNumber};
 ghost use Rattle.system.specs.Ready.{Ready};
 ghost use Rattle.sheet.specs.Record.{ledgerOf};
 ghost use Rattle.sheet.specs.Calls.{markedOf, markByte, claimsOf, classBytes, classedOf, marksAfter};
@@ -82,6 +82,7 @@ fn mark_byte(mark: Mark) -> u8
 {
     match mark {
         Mark::Pass => 1,
+        Mark::Long => 2,
         Mark::Fail => 0,
     }
 }

@@ -12,7 +12,7 @@ use asking::queries::CLAIM_ROOM;
 use asking::queries::mark_refusal;
 use equations::Mark;
 use system::limits::BASIS;
-use system::marking::mark as claim_passes;
+use system::marking::mark as mark_entries;
 
 // The mark, or the number of a refusal.
 pub enum Marked {
@@ -46,14 +46,12 @@ pub(crate) fn mark_claim(sheet: &[u32], view: View, rows: &mut [u32], words: &[u
     let n = seen.unknowns;
     let end = wide(numbers[0]) * n + 1;
     let lines_end = view.end;
-    if claim_passes(
+    let mark = mark_entries(
         seen.modulus,
         n,
         &sheet[CELLS_AT..lines_end],
         rows,
         &numbers[1..end],
-    ) {
-        return Marked::Gets(Mark::Pass);
-    }
-    Marked::Gets(Mark::Fail)
+    );
+    Marked::Gets(mark)
 }

@@ -1,4 +1,4 @@
-// The reason why a student's claim about a sheet's equations fails.
+// The reason why a student's claim about a sheet's equations fails, or is long.
 ghost use mathlib.Core.Path.{_≡_};
 ghost use Prim.Native.Nat.{_<_};
 ghost use lib.ListN.{length};
@@ -100,5 +100,6 @@ fn kind_of(reason: Reason) -> u32
         Reason::Breaks(equation) => ENTRY,
         Reason::Changes(step, equation) => ENTRY,
         Reason::Misses => ENTRY,
+        Reason::Superfluous(step) => ENTRY,
     }
 }

@@ -2,7 +2,9 @@
 --   claim-of-flat      a start with its steps, one behind the other, are found again
 --   claim-formed       a well-formed claim's vectors are vectors of n residues,
 --   claim-described    and it describes no others
+--   claim-right-for    one that is right, with the basis of the equations
 use mathlib.Core.Path.{_≡_, refl, ap₂, _∙_, ap}
+use mathlib.Core.Bool.{true}
 use mathlib.Core.List.{List, [], _∷_, _++_, flatten}
 use Prim.Native.Nat.{ℕ, _<_}
 use native.Mathlib.Omega.{arith}
@@ -10,12 +12,18 @@ use lib.ListN.{length, take, drop, length-append}
 use lib.Seq.{take-at, drop-at, length-take-le}
 use lib.Dec.{T}
 use Rattle.equations.specs.Vectors.{Vector, AllVectors}
-use Rattle.equations.specs.Claim.{Claim, noSolution, from, describes}
+use Rattle.equations.specs.Lines.{equationsOf}
+use Rattle.equations.specs.Claim.{Claim, noSolution, from, describes, isRight}
 use Rattle.equations.specs.Reasons.{Formed}
+use Rattle.equations.proofs.Truth.{of-true}
+use Rattle.equations.proofs.Lines.{equations-shaped}
 use Rattle.equations.proofs.Vectors.{vector-length, vector-of, below-take, below-drop}
 use Rattle.equations.proofs.Claim.{describes-nothing}
 use Rattle.equations.proofs.Listed.{described-vector}
+use Rattle.elimination.specs.Tableau.{tableau}
 use Rattle.system.specs.Claims.{vectorsOf, claimOf, Claimed}
+use Rattle.system.specs.Model.Reading.{rowsIn}
+use Rattle.system.specs.Model.Marking.{RightFor}
 use Rattle.system.proofs.Chunks.{vectors-listed, vectors-flatten}
 use Rattle.system.proofs.Marks.{claim-front}
 
@@ -41,6 +49,11 @@ claim-formed m n (x ∷ s) claimed =
           (below-take m n claim (claimed .residues)),
       vectors-listed m n (drop n claim) (below-drop m n claim (claimed .residues)),
     )
+
+pub claim-right-for : (m n : ℕ) (lines claim : List ℕ) → Claimed m n claim → (s : List ℕ) → rowsIn n s ≡ tableau m n 0 (equationsOf n lines)
+    → isRight m n (equationsOf n lines) (claimOf n claim) ≡ true → RightFor m n (equationsOf n lines) s (claimOf n claim)
+claim-right-for m n lines claim claimed s rows right =
+    record { shaped = equations-shaped n lines; rows = rows; formed = claim-formed m n claim claimed; right = of-true right }
 
 formed-described : (m n : ℕ) → 0 < m → (claim : Claim) → Formed m n claim → (v : List ℕ) → T (describes m claim v) → Vector m n v
 formed-described m n pos noSolution formed v t = absurd (describes-nothing m v t)

@@ -6,12 +6,12 @@
 --   reason-none                    the reason of a claim of no solution
 --   explained-broken               of a start that breaks an equation,
 --   reason-changes                 of a step that changes a left side,
---   found-right, found-above, found-missed   and of a claim whose start and steps are right, with the missed solution
+--   found-right-for, found-right, found-above, found-missed   and of a claim whose start and steps are right, with the missed solution
 use mathlib.Core.Path.{_≡_, refl, sym, ap, subst, _∙_}
 use mathlib.Core.Logic.{⊎-elim}
 use mathlib.Core.Bool.{Bool, true, false, cond}
 use mathlib.Core.List.{List, [], _∷_, _++_}
-use Prim.Native.Nat.{ℕ, _+_, _-_, _<_, _≤_}
+use Prim.Native.Nat.{ℕ, zero, suc, _+_, _-_, _<_, _≤_}
 use native.Mathlib.Omega.{arith}
 use lib.Dec.{T, eqb}
 use lib.ListN.{length, drop, replicate}
@@ -25,7 +25,8 @@ use Rattle.equations.specs.Equation.{Equation, solves, Shaped}
 use Rattle.equations.specs.Lines.{equationsOf}
 use Rattle.equations.specs.Answer.{startOf}
 use Rattle.equations.specs.Claim.{Claim, noSolution, from, isRight}
-use Rattle.equations.specs.Reasons.{hasSolution, brokenAt, keeps, changedStep, changedLine, reasonOf}
+use Rattle.equations.specs.Marks.{superfluousAt}
+use Rattle.equations.specs.Reasons.{hasSolution, brokenAt, keeps, changedStep, changedLine, rightReason, reasonOf}
 use Rattle.equations.proofs.Truth.{true-of, of-true, true-or-false}
 use Rattle.equations.proofs.Lists.{someone-of}
 use Rattle.equations.proofs.Vectors.{vector-length, below-take, below-zeros}
@@ -48,7 +49,7 @@ use Rattle.system.specs.Reasons.{startShown, shownFor, shownWith, findin
 use Rattle.system.specs.Posed.{Posed}
 use Rattle.system.specs.Claims.{vectorsOf}
 use Rattle.system.specs.Model.Reading.{rowsIn, readVector}
-use Rattle.system.specs.Model.Marking.{Based, brokenReason, brokenShown}
+use Rattle.system.specs.Model.Marking.{RightFor, Based, brokenReason, brokenShown}
 use Rattle.system.proofs.Chunks.{vectors-listed}
 use Rattle.system.proofs.Answer.{read-start}
 
@@ -176,9 +177,12 @@ module _ (m n : ℕ) (es : List Equation) where
         outcome : (b : Bool) → eqb p 0 ≡ b → isRight m n es (from c ss) ≡ b
         outcome b t = sym (apart-right m n es c ss pos shaped vec vs start steps) ∙ ap (λ (z : ℕ). eqb z 0) (sym p-is) ∙ t
 
-        reason-right : p ≡ 0 → reasonOf m n es (from c ss) ≡ Passes
+        is-right : p ≡ 0 → isRight m n es (from c ss) ≡ true
+        is-right z = outcome true (eq-eqb p 0 z)
+
+        reason-right : p ≡ 0 → reasonOf m n es (from c ss) ≡ rightReason (superfluousAt m n ss)
         unfolding reasonOf
-        reason-right z = rw (some, start, steps, outcome true (eq-eqb p 0 z))
+        reason-right z = rw (some, start, steps, is-right z)
 
         module _ (missing : p ≡ 0 → ⊥) where
           wrong : isRight m n es (from c ss) ≡ false
@@ -217,12 +221,31 @@ module _ (m n : ℕ) (lines s start steps : List ℕ) (posed : Posed m n lines) 
   of-tableau : p ≡ apart m n (tableau m n 0 (equationsOf n lines)) (basis m n 0 (vectorsOf n steps))
   of-tableau = is ∙ ap (λ (B : List (List ℕ)). apart m n B (basis m n 0 ss)) (based .rows)
 
-  pub found-right : p ≡ 0 → (old : List ℕ)
-      → (record { reason = Passes; len = 0 } ≡ findingOf m n (equationsOf n lines) (from start (vectorsOf n steps)))
+  -- so the claim is right
+  pub found-right-for : p ≡ 0 → RightFor m n (equationsOf n lines) s (from start (vectorsOf n steps))
+  found-right-for z =
+      record {
+        shaped = equations-shaped n lines;
+        rows = based .rows;
+        formed = (vec, listed);
+        right = of-true (is-right m n lists start ss positive (equations-shaped n lines) vec right listed kept p of-tableau z);
+      }
+
+  nothing-shown : (k : ℕ) → shownFor m n lists (from start ss) (rightReason k) ≡ []
+  nothing-shown zero = refl
+  nothing-shown (suc j) = refl
+
+  -- r is the reason by the first superfluous step
+  pub found-right : p ≡ 0 → (step : ℕ) → step ≡ superfluousAt m n (vectorsOf n steps) → (r : Reason) → r ≡ rightReason step → (old : List ℕ)
+      → (record { reason = r; len = 0 } ≡ findingOf m n (equationsOf n lines) (from start (vectorsOf n steps)))
       × (old ≡ over (shownWith m n (equationsOf n lines) (from start (vectorsOf n steps))) old)
-  found-right z old =
-      explained m n lists (from start ss) Passes
-      (reason-right m n lists start ss positive (equations-shaped n lines) vec right listed kept p of-tableau z) old 0 refl refl
+  found-right z step step-is r r-is old =
+      let named : r ≡ rightReason (superfluousAt m n ss) = r-is ∙ ap rightReason step-is in
+      let none : shownFor m n lists (from start ss) r ≡ [] =
+      ap (shownFor m n lists (from start ss)) named ∙ nothing-shown (superfluousAt m n ss) in
+      explained m n lists (from start ss) r
+      (reason-right m n lists start ss positive (equations-shaped n lines) vec right listed kept p of-tableau z ∙ sym named) old 0
+      (sym (ap length none)) (sym (ap (λ (xs : List ℕ). over xs old) none))
 
   module _ (missing : p ≡ 0 → ⊥) where
     pub found-above : (p ≤ n) × (1 < pivot (n - p) (rowsIn n s))

@@ -3,6 +3,9 @@
 -- above too.
 pub mod Rows
 pub mod Chunks
+pub mod Entries
+pub mod Relations
+pub mod Generators
 pub mod Seed
 pub mod Laid
 pub mod Answer

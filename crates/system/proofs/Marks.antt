@@ -5,7 +5,8 @@
 --   solves-none                  what a claim describes solves the equations: the empty one does,
 --   start-fails, start-solves    any other one by its start and its steps
 --   misses-none, misses-some     and it misses no solution
---   not-solved, solved           both together are the mark
+--   mark-fails, mark-right       the mark by whether a claim is right, and by its first superfluous step
+--   not-solved, solved           both parts together tell whether it is right
 use mathlib.Core.Path.{_≡_, refl, sym, ap, ap₂, _∙_}
 use mathlib.Core.Logic.{_⊎_, inl, inr, ⊎-elim}
 use mathlib.Core.Bool.{Bool, true, false, _&&_, not}
@@ -18,9 +19,11 @@ use lib.Seq.{length-take-le}
 use lib.Dec.{eqb}
 use borrow.Author.Tests.{eqb-true, eqb-false, eq-eqb, ne-eqb}
 use Rattle.slices.proofs.Parts.{lent, lent-is}
+use Rattle.equations.specs.declared.Mark.the-variants.{Fail}
 use Rattle.equations.specs.Lists.{every}
 use Rattle.equations.specs.Equation.{Equation, solves}
 use Rattle.equations.specs.Claim.{Claim, noSolution, from, isRight}
+use Rattle.equations.specs.Marks.{superfluousIn, markWith, markOf}
 use Rattle.equations.specs.Reasons.{brokenAt, keeps, changedStep}
 use Rattle.equations.proofs.Truth.{true-or-false}
 use Rattle.equations.proofs.Fails.{fails-none}
@@ -105,6 +108,16 @@ module _ (m n : ℕ) (claim : List ℕ) where
     pub misses-some : (length claim ≡ 0 → ⊥) → r ≡ agree m n B (basis m n 0 (vectorsOf n (lent n claim)))
         → r ≡ missesNone m n B (claimOf n claim)
     misses-some some e = e ∙ ap (missesNone m n B) (claim-of-some n claim some)
+
+-- the mark, by whether the claim is right
+module _ (m n : ℕ) (es : List Equation) (claim : Claim) (r : Bool) (right : r ≡ isRight m n es claim) where
+  pub mark-fails : r ≡ false → Fail ≡ markOf m n es claim
+  unfolding markOf
+  mark-fails f = ap (λ (b : Bool). markWith b (superfluousIn m n claim)) (sym f ∙ right)
+
+  pub mark-right : r ≡ true → (k : ℕ) → k ≡ superfluousIn m n claim → markWith true k ≡ markOf m n es claim
+  unfolding markOf
+  mark-right t k is = ap₂ markWith (sym t ∙ right) is
 
 module _ (m n : ℕ) (lines claim : List ℕ) (posed : Posed m n lines) (claimed : Claimed m n claim) where
   abbrev es : List Equation

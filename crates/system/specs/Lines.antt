@@ -1,16 +1,14 @@
 -- What Block and Reasons say of equations mod one m, said of lines with a modulus of their own. Each promise is a type; proofs/Lines.antt
 -- keeps it. Definitions only.
 use mathlib.Core.Path.{_≡_}
-use mathlib.Core.Logic.{_↔_}
 use mathlib.Core.List.{List}
 use mathlib.Core.Option.{none}
 use Prim.Native.Nat.{ℕ, _<_}
 use lib.Dec.{T}
-use Rattle.equations.specs.declared.Reason.the-variants.{Passes}
 use Rattle.equations.specs.Equation.{Equation}
 use Rattle.equations.specs.Claim.{Claim}
-use Rattle.equations.specs.Reasons.{Formed}
-use Rattle.equations.specs.Line.{Line, Moduli, ShapedLines, lineStart, lineSteps, lineIsRight, scaled, lineRefutes, linesMod}
+use Rattle.equations.specs.Reasons.{markBeside, Formed}
+use Rattle.equations.specs.Line.{Line, Moduli, ShapedLines, lineStart, lineSteps, lineMark, scaled, lineRefutes, linesMod}
 use Rattle.equations.specs.LineReasons.{lineReason, LineSays}
 use Rattle.elimination.specs.Multipliers.{multipliersOf}
 use Rattle.system.specs.Block.{blockWith, blockOf}
@@ -35,17 +33,18 @@ LineMultipliersRefute =
     (m n : ℕ) (ls : List Line) → 0 < m → Moduli m ls → ShapedLines n ls → lineStart m n ls ≡ none
     → T (lineRefutes m n ls (lineMultipliers m n ls))
 
--- "each failed one gives a reason that is true as stated"
+-- "each failed one gives a reason that is true as stated", and so does each long one
 abbrev pub TrueLineReason : Type 0
 TrueLineReason =
     (m n : ℕ) (ls : List Line) (claim : Claim) → 0 < m → Moduli m ls → ShapedLines n ls → Formed m n claim
     → LineSays m n ls claim (lineReason m n ls claim) (lineShown m n ls claim)
 
--- "A passed claim gives no reason", and each failed one does
-abbrev pub NoLineReason : Type 0
-NoLineReason =
+-- "A passed claim gives no reason, and each failed one gives a reason"; "for a long claim, the number of its first superfluous step": the
+-- reason goes with the mark
+abbrev pub SameLineVerdict : Type 0
+SameLineVerdict =
     (m n : ℕ) (ls : List Line) (claim : Claim) → 0 < m → Moduli m ls → ShapedLines n ls → Formed m n claim
-    → (lineReason m n ls claim ≡ Passes) ↔ T (lineIsRight m n ls claim)
+    → markBeside (lineReason m n ls claim) ≡ lineMark m n ls claim
 
 -- "without it .. q is m": for lines that are all mod m, block and reason show what they showed before
 abbrev pub PlainShown : Type 0

@@ -1,17 +1,16 @@
 -- What is shown beside a reason, and two promises about reasons. Each promise is a type; proofs/Reasons.antt keeps it. Definitions only.
 use mathlib.Core.Path.{_≡_}
-use mathlib.Core.Logic.{_↔_}
 use mathlib.Core.List.{List, []}
 use mathlib.Core.Option.{Option, none, some}
 use Prim.Native.Nat.{ℕ, _<_}
 use lib.ListN.{length}
-use lib.Dec.{T}
 use Rattle.equations.specs.declared.Reason.{Reason}
-use Rattle.equations.specs.declared.Reason.the-variants.{Passes, Solvable, Unsolvable, Breaks, Changes, Misses}
+use Rattle.equations.specs.declared.Reason.the-variants.{Passes, Solvable, Unsolvable, Breaks, Changes, Misses, Superfluous}
 use Rattle.equations.specs.Equation.{Equation, Shaped}
 use Rattle.equations.specs.Answer.{startOf}
-use Rattle.equations.specs.Claim.{Claim, isRight}
-use Rattle.equations.specs.Reasons.{reasonOf, Says, Formed}
+use Rattle.equations.specs.Claim.{Claim}
+use Rattle.equations.specs.Marks.{markOf}
+use Rattle.equations.specs.Reasons.{reasonOf, markBeside, Says, Formed}
 use Rattle.elimination.specs.Multipliers.{multipliersOf}
 use Rattle.elimination.specs.Missed.{missedOf}
 use Rattle.system.specs.declared.explaining.Finding.{Finding}
@@ -30,6 +29,8 @@ shownFor m n es claim Unsolvable = multipliersOf m n es
 shownFor m n es claim (Breaks equation) = []
 shownFor m n es claim (Changes step equation) = []
 shownFor m n es claim Misses = missedOf m n es claim
+-- "and writes no words"
+shownFor m n es claim (Superfluous step) = []
 
 unfoldable pub shownWith : ℕ → ℕ → List Equation → Claim → List ℕ
 shownWith m n es claim = shownFor m n es claim (reasonOf m n es claim)
@@ -38,14 +39,15 @@ shownWith m n es claim = shownFor m n es claim (reasonOf m n es claim)
 unfoldable pub findingOf : ℕ → ℕ → List Equation → Claim → Finding
 findingOf m n es claim = record { reason = reasonOf m n es claim; len = length (shownWith m n es claim) }
 
--- "each failed one gives a reason that is true as stated"
+-- "each failed one gives a reason that is true as stated", and so does each long one
 abbrev pub TrueReason : Type 0
 TrueReason =
     (m n : ℕ) (es : List Equation) (claim : Claim) → 0 < m → Shaped n es → Formed m n claim
     → Says m n es claim (reasonOf m n es claim) (shownWith m n es claim)
 
--- "A passed claim gives no reason", and each failed one does
-abbrev pub NoReason : Type 0
-NoReason =
+-- "A passed claim gives no reason, and each failed one gives a reason"; "for a long claim, the number of its first superfluous step": the
+-- reason goes with the mark
+abbrev pub SameVerdict : Type 0
+SameVerdict =
     (m n : ℕ) (es : List Equation) (claim : Claim) → 0 < m → Shaped n es → Formed m n claim
-    → (reasonOf m n es claim ≡ Passes) ↔ T (isRight m n es claim)
+    → markBeside (reasonOf m n es claim) ≡ markOf m n es claim

@@ -1,6 +1,7 @@
 // The reasons that need the basis of the lines.
 ghost use mathlib.Core.Path.{_≡_};
 ghost use mathlib.Core.Bool.{true};
+ghost use Prim.Native.Nat.{_*_, _≤_};
 ghost use lib.ListN.{length};
 ghost use Rattle.slices.specs.Over.{over};
 ghost use Rattle.equations.specs.Lists.{every};
@@ -8,7 +9,7 @@ ghost use Rattle.equations.specs.Vectors.{Vector, Below};
 ghost use Rattle.equations.specs.Equation.{solves};
 ghost use Rattle.equations.specs.Lines.{equationsOf};
 ghost use Rattle.equations.specs.Claim.{noSolution, from};
-ghost use Rattle.equations.specs.Reasons.{keeps};
+ghost use Rattle.equations.specs.Reasons.{keeps, rightReason};
 ghost use Rattle.system.specs.Posed.{Posed};
 ghost use Rattle.system.specs.Claims.{vectorsOf};
 ghost use Rattle.system.specs.Reasons.{shownWith, findingOf};
@@ -20,6 +21,7 @@ use crate::limits::BASIS;
 use crate::reading::missed_into;
 use crate::reading::packed_size;
 use crate::reading::start_into;
+use crate::relating::needless;
 use crate::runs::refutation;
 use crate::spanning::missing;
 use equations::Reason;
@@ -72,7 +74,7 @@ pub(crate) fn explain_broken(
     }
 }
 
-// Start and steps are right: all that is left is a solution that they do not describe.
+// Start and steps are right: all that is left is a solution that they do not describe, or a superfluous step.
 pub(crate) fn explain_missing(
     m: u32,
     n: usize,
@@ -81,7 +83,8 @@ pub(crate) fn explain_missing(
     steps: &[u32],
     shown: &mut [u32],
 ) -> Finding
-    requires { ⌜ Posed m n (now lines) × Vector m n (now start) × Below m (now steps) × (length (now shown) ≡ 16) ⌝ }
+    requires { ⌜ Posed m n (now lines) × Vector m n (now start) × Below m (now steps) × (length (now steps) ≤ 16 * n)
+        × (length (now shown) ≡ 16) ⌝ }
     requires { ⌜ (solves m (equationsOf n (now lines)) (now start) ≡ true)
         × (every (keeps m (equationsOf n (now lines))) (vectorsOf n (now steps)) ≡ true) ⌝ }
     ensures { λ r. ⌜ r ≡ findingOf m n (equationsOf n (now (lines .entry))) (from (now (start .entry)) (vectorsOf n (now (steps .entry)))) ⌝ }
@@ -94,8 +97,9 @@ pub(crate) fn explain_missing(
     let basis = &rows[..size];
     let place = missing(m, n, basis, steps);
     if place == 0 {
+        let step = needless(m, n, basis, steps);
         return Finding {
-            reason: Reason::Passes,
+            reason: right_reason(step),
             len: 0,
         };
     }
@@ -104,4 +108,14 @@ pub(crate) fn explain_missing(
         reason: Reason::Misses,
         len: n,
     }
+}
+
+// The reason beside a claim that describes just the solutions, by its first superfluous step.
+fn right_reason(step: u32) -> Reason
+    ensures { λ r. ⌜ r ≡ rightReason step ⌝ }
+{
+    if step == 0 {
+        return Reason::Passes;
+    }
+    Reason::Superfluous(step)
 }

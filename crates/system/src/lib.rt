@@ -1,5 +1,5 @@
 // Answers to lists of equations over the residues, as document 01 defines them, the marking of claims, and the
-// reasons why they fail.
+// reasons why they fail or are long.
 mod checking;
 pub mod explaining;
 mod finding;
@@ -7,6 +7,7 @@ mod keeping;
 pub mod limits;
 pub mod marking;
 mod reading;
+mod relating;
 pub mod residues;
 mod runs;
 pub mod solving;

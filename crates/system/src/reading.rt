@@ -68,7 +68,7 @@ fn step_into(basis: &[u32], out: &mut [u32], m: u32, n: usize, i: usize) -> usiz
 }
 
 // All steps, one behind the other by rising place, which is falling column; their number.
-fn steps_into(basis: &[u32], out: &mut [u32], m: u32, n: usize) -> usize
+pub(crate) fn steps_into(basis: &[u32], out: &mut [u32], m: u32, n: usize) -> usize
     requires { ⌜ Readable m n (now basis) × (n * n ≤ length (now out)) ⌝ }
     ensures { λ r. ⌜ (r ≤ n) × Laid n (readSteps m n (rowsIn n (now (basis .entry))) n) (now (out .entry)) (now (out .exit)) r ⌝ }
 {

@@ -1,5 +1,5 @@
 -- The promises of specs/Promises.antt, kept: an answer's block, cut into vectors again, is the start and the steps, the line of a mark
--- tells whether the claim passes, and the words of a class are marks.
+-- tells whether the claim is right and whether it is long, and the words of a class are marks.
 use mathlib.Core.Path.{_≡_, refl, sym, ap, ap₂, _∙_}
 use mathlib.Core.List.{List, [], _∷_, _++_, append-assoc, flatten}
 use mathlib.Core.Option.{some}
@@ -9,8 +9,8 @@ use lib.Dec.{T, eqb→eq}
 use lib.ListN.{length, getD}
 use lib.Seq.{take-at, drop-at}
 use Rattle.equations.specs.Line.{Line, lineStart, lineSteps, lineRefutes}
-use Rattle.equations.specs.declared.Mark.the-variants.{Pass, Fail}
 use Rattle.equations.proofs.Vectors.{vector-length}
+use Rattle.equations.proofs.Marks.{Apart}
 use Rattle.equations.proofs.LinePromises.{line-no-start}
 use Rattle.system.specs.Claims.{vectorsWithin}
 use Rattle.system.specs.Lines.{lineMultipliers}
@@ -26,14 +26,14 @@ use Rattle.ledger.specs.Questions.{plain}
 use Rattle.ledger.specs.History.{enter, ledgerFrom, ledger}
 use Rattle.ledger.proofs.Own.{line-vector, line-vectors}
 use Rattle.ledger.proofs.Refusals.{answers-word-plain}
-use Rattle.sheet.specs.Promises.{NothingSolves, WellFormed}
+use Rattle.sheet.specs.Promises.{NothingSolves, WellFormed, RightMark}
 use Rattle.sheet.specs.History.{after}
 use Rattle.sheet.proofs.History.{after-reads}
-use Rattle.sheet.proofs.Marks.{well-accepted, mark-tells}
+use Rattle.sheet.proofs.Marks.{well-accepted, claim-tells}
 use Rattle.sheet.proofs.Promises.{right-always}
 use Rattle.tape.specs.Text.{line, lineOf}
 use Rattle.tape.specs.Output.{blockLines, stepLines, markLine, answerLines, callLines, linesFrom}
-use Rattle.tape.specs.Promises.{CallPrinted, AnswerPrinted, AnswersPrinted, MarkPrinted, MarksPrinted, ClassOnTape}
+use Rattle.tape.specs.Promises.{CallPrinted, AnswerPrinted, AnswersPrinted, MarksPrinted, ClassOnTape}
 use Rattle.tape.proofs.Told.{accepted-told}
 use Rattle.tape.proofs.Classes.{class-marks}
 
@@ -52,9 +52,15 @@ call-from l (b ∷ before) rest c =
 pub call-printed : CallPrinted
 call-printed = call-from unopened
 
-pass-or-fail : markLine Pass ≡ markLine Fail → ⊥
+lines-apart : Apart markLine
 unfolding lineOf
-pass-or-fail same = omega (arith, ap (λ (bytes : List ℕ). getD bytes 0 0) same)
+lines-apart =
+    let first : List ℕ → ℕ = λ bytes. getD bytes 0 0 in
+    record {
+      pass-fail = λ same. omega (arith, ap first same);
+      long-fail = λ same. omega (arith, ap first same);
+      pass-long = λ same. omega (arith, ap first same);
+    }
 
 module _ (m n : ℕ) (ls : List Line) where
   module _ (calls : List Call) (holds : ledger calls ≡ opened m n ls) where
@@ -99,10 +105,8 @@ module _ (m n : ℕ) (ls : List Line) where
     answer-printed w zero = rw (answer-is w zero) (record { solution = solution-printed; refutation = refutation-printed })
 
     mark-printed : (ws : List ℕ) → WellFormed m n ws
-        → MarkPrinted m n ls (claimFrom n (wordsIn ws)) (callLines (ledger calls) (queries (marks ws)))
-    mark-printed ws well =
-        let both = mark-tells m n ls positive ws well markLine pass-or-fail in
-        rw (mark-is ws well) (record { pass = both .0; fail = both .1 })
+        → RightMark markLine m n ls (claimFrom n (wordsIn ws)) (callLines (ledger calls) (queries (marks ws)))
+    mark-printed ws well = rw (mark-is ws well) (claim-tells m n ls positive ws well markLine lines-apart)
 
 pub answers-printed : AnswersPrinted
 answers-printed calls m n ls = answer-printed m n ls calls

@@ -6,7 +6,7 @@ use lib.Dec.{eqb, leb}
 use lib.ListN.{length, take, drop}
 use Rattle.questions.specs.Questions.{unlessRefused}
 use Rattle.equations.specs.declared.Mark.{Mark}
-use Rattle.equations.specs.declared.Mark.the-variants.{Pass, Fail}
+use Rattle.equations.specs.declared.Mark.the-variants.{Pass, Long, Fail}
 use Rattle.words.specs.Words.{wordsIn}
 use Rattle.system.specs.Lines.{lineBlock}
 use Rattle.system.specs.Claims.{vectorsWithin}
@@ -43,9 +43,10 @@ answerLines l = blockLines (unknownsOf l) (lineBlock (modulusOf l) (unknownsOf l
 abbrev pub heldAfter : Ledger → Entry → List ℕ
 heldAfter l e = length (linesIn (enter l (enters e))) ∷ []
 
--- "`pass`, `fail`"
+-- "`pass`, `fail`"; "`long` on the printer"
 abbrev pub markLine : Mark → List ℕ
 markLine Pass = line "pass" []
+markLine Long = line "long" []
 markLine Fail = line "fail" []
 
 -- the lines of an accepted call, where the ledger before it is l

@@ -1,7 +1,6 @@
 -- What a tape prints for answers and marks, in document 01's terms and in demand 3's. Each promise is a type; proofs/Promises.antt
 -- keeps it. Definitions only.
 use mathlib.Core.Path.{_≡_}
-use mathlib.Core.Logic.{_↔_}
 use mathlib.Core.Bool.{Bool}
 use mathlib.Core.List.{List, [], _∷_, _++_, map}
 use mathlib.Core.Option.{some}
@@ -9,7 +8,6 @@ use Prim.Native.Nat.{ℕ}
 use lib.Dec.{T, eqb}
 use lib.ListN.{getD}
 use Rattle.equations.specs.Lists.{every}
-use Rattle.equations.specs.Claim.{Claim}
 use Rattle.equations.specs.Line.{Line, lineStart, lineSteps, lineRefutes}
 use Rattle.ledger.specs.Ledger.{Ledger, unopened, unknownsOf, opened}
 use Rattle.ledger.specs.Shapes.{claimFrom}
@@ -18,10 +16,10 @@ use Rattle.ledger.specs.Classes.{claimsIn}
 use Rattle.ledger.specs.Calls.{Call, marks, answersFromTape, queries}
 use Rattle.ledger.specs.Questions.{plain}
 use Rattle.ledger.specs.History.{enter, ledger}
-use Rattle.sheet.specs.Promises.{NothingSolves, WellFormed, DescribesSolutions}
+use Rattle.sheet.specs.Promises.{NothingSolves, WellFormed, RightMark}
 use Rattle.tape.specs.Text.{line}
 use Rattle.tape.specs.Calls.{callsOn}
-use Rattle.tape.specs.Output.{stepLines, callLines, linesFrom}
+use Rattle.tape.specs.Output.{stepLines, markLine, callLines, linesFrom}
 
 -- "Each call gives a line": for a call behind others, `callLines` of the ledger that those lead to is what a tape prints between
 -- their lines and the lines of the calls behind it.
@@ -46,17 +44,11 @@ AnswersPrinted =
     (calls : List Call) (m n : ℕ) (ls : List Line) → ledger calls ≡ opened m n ls
     → (w : ℕ) → T (plain w) → AnswerPrinted m n ls (callLines (ledger calls) (queries (answersFromTape w)))
 
--- `pass` and `fail`: a claim "is passed exactly when the vectors it describes are the vectors that solve all those equations, and
--- failed otherwise"
-pub record MarkPrinted (m n : ℕ) (ls : List Line) (claim : Claim) (printed : List ℕ) : Type 0 where
-  pub pass : (printed ≡ line "pass" []) ↔ DescribesSolutions m n ls claim
-  pub fail : (printed ≡ line "fail" []) ↔ (DescribesSolutions m n ls claim → ⊥)
-
--- after every such list, for "a well-formed claim marked then"
+-- `pass`, `long` and `fail`, after every such list, for "a well-formed claim marked then"
 abbrev pub MarksPrinted : Type 0
 MarksPrinted =
     (calls : List Call) (m n : ℕ) (ls : List Line) → ledger calls ≡ opened m n ls
-    → (ws : List ℕ) → WellFormed m n ws → MarkPrinted m n ls (claimFrom n (wordsIn ws)) (callLines (ledger calls) (queries (marks ws)))
+    → (ws : List ℕ) → WellFormed m n ws → RightMark markLine m n ls (claimFrom n (wordsIn ws)) (callLines (ledger calls) (queries (marks ws)))
 
 -- a head stands where it should
 abbrev pub hasHead : List ℕ → Bool

@@ -63,6 +63,7 @@ fn mark_line(mark: Mark, out: &mut [u8]) -> usize
     let numbers = [0u32; 0];
     match mark {
         Mark::Pass => line(b"pass", &numbers, out),
+        Mark::Long => line(b"long", &numbers, out),
         Mark::Fail => line(b"fail", &numbers, out),
     }
 }

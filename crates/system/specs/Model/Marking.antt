@@ -4,15 +4,15 @@ use mathlib.Core.Path.{_≡_}
 use mathlib.Core.Bool.{Bool, true, cond, _&&_, not}
 use mathlib.Core.List.{List, []}
 use Prim.Native.Nat.{ℕ, _+_, _<_}
-use lib.Dec.{eqb}
+use lib.Dec.{T, eqb}
 use lib.ListN.{length, take, getD}
 use Rattle.equations.specs.declared.Reason.{Reason}
 use Rattle.equations.specs.declared.Reason.the-variants.{Unsolvable, Breaks}
 use Rattle.equations.specs.Lists.{every}
-use Rattle.equations.specs.Equation.{Equation, solves, homogeneous}
+use Rattle.equations.specs.Equation.{Equation, solves, homogeneous, Shaped}
 use Rattle.equations.specs.Lines.{equationsOf}
-use Rattle.equations.specs.Claim.{Claim, noSolution, from}
-use Rattle.equations.specs.Reasons.{hasSolution}
+use Rattle.equations.specs.Claim.{Claim, noSolution, from, isRight}
+use Rattle.equations.specs.Reasons.{hasSolution, Formed}
 use Rattle.elimination.specs.Basis.{basis, pivot}
 use Rattle.elimination.specs.Tableau.{tableau}
 use Rattle.elimination.specs.Multipliers.{multipliersOf}
@@ -33,6 +33,13 @@ claimSolves m es (from start steps) = solves m es start && every (solves m (homo
 abbrev pub missesNone : ℕ → ℕ → List (List ℕ) → Claim → Bool
 missesNone m n B noSolution = not (eqb (pivot n B) m)
 missesNone m n B (from start steps) = agree m n B (basis m n 0 steps)
+
+-- the numbers in s are the basis of es, equations in n unknowns for which the claim is right
+pub record RightFor (m n : ℕ) (es : List Equation) (s : List ℕ) (claim : Claim) : Type 0 where
+  pub shaped : Shaped n es
+  pub rows : rowsIn n s ≡ tableau m n 0 es
+  pub formed : Formed m n claim
+  pub right : T (isRight m n es claim)
 
 -- s is the basis of the lines
 pub record Based (m n : ℕ) (lines s : List ℕ) : Type 0 where

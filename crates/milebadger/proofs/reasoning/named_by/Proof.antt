@@ -31,6 +31,9 @@ enum-known-reason-2 c = search needs
 enum-told-4 : tie.Need-enum-told-4
 enum-told-4 c = search needs
 
+enum-known-reason-3 : tie.Need-enum-known-reason-3
+enum-known-reason-3 c = search needs
+
 returns : tie.Need-returns
 returns c = of-case (c .enum-told .given .1) refl refl
 
@@ -49,6 +52,9 @@ returns-5 c = of-case (c .before .reason2 .given .1) refl refl
 returns-6 : tie.Need-returns-6
 returns-6 c = of-case (c .enum-told4 .given .1) refl refl
 
+returns-7 : tie.Need-returns-7
+returns-7 c = of-case (c .before .reason3 .given .1) refl refl
+
 pub named-by-spec : {M : Type 1} → statement M
 named-by-spec =
     tie.close
@@ -59,9 +65,11 @@ named-by-spec =
     enum-known-reason
     enum-known-reason-2
     enum-told-4
+    enum-known-reason-3
     returns
     returns-2
     returns-3
     returns-4
     returns-5
-    returns-6)
+    returns-6
+    returns-7)

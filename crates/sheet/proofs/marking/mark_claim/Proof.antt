@@ -1,13 +1,10 @@
 -- `marking::mark_claim` meets its contract: the entries of an accepted claim are seen in the numbers, and they are marked.
-use mathlib.Core.Path.{sym, ap, _∙_}
-use mathlib.Core.Bool.{cond}
+use mathlib.Core.Path.{sym, _∙_}
 use native.Mathlib.Omega.{arith}
 use borrow.Author.Needs.{needs}
 use denote.Ref.{now}
 use lib.ListN.{replicate}
-use Rattle.equations.specs.declared.Mark.the-variants.{Pass, Fail}
 use Rattle.asking.specs.Sees.{claimRoom}
-use Rattle.sheet.specs.declared.marking.Marked.the-variants.{Gets}
 use Rattle.sheet.specs.Record.{ledgerOf}
 use Rattle.sheet.proofs.Few.{unknowns-few}
 use Rattle.sheet.proofs.Reading.{reads-allowed}
@@ -102,34 +99,15 @@ same-length c = search needs
 
 returns-2 : tie.Need-returns-2
 returns-2 c =
-    let z = c .before .before .before .before .before .before .before .before .before .before .before .before .before .before .before .before .before in
+    let z = c .before .before .before .before .before .before .before .before .before .before .before .before .before .before .before .before in
     let s = now (z .args .sheet) in
     let ws = now (z .args .words) in
     let sees = z .pre .0 .sees in
-    let asked = c .before .before .before .before .before .before .before .before .before .before .before .mark-refusal .ensures in
-    let accepted = sym (asked .0 (ledgerOf s) sees) ∙ c .before .before .before .before .before .before .before .before .before .if1 .left in
-    let mark = c .before .before .before .mark in (
-      ap (λ b. Gets (cond b Pass Fail)) (sym (c .if2 .taken))
-          ∙ marked-as (ledgerOf s) ws accepted (unknowns-few s) (replicate claimRoom 0) (asked .1) sees (c .before .before .before .before .before .before .before .before .wide .result)
-          (c .before .before .before .before .before .before .before .before .wide .ensures) (reads-allowed s (mark-opened (ledgerOf s) ws accepted)) _ (z .pre .0 .equations (mark-opened (ledgerOf s) ws accepted)) (mark .result) (mark .ensures .0),
-      mark .ensures .1,
-    )
-
-same-length-2 : tie.Need-same-length-2
-same-length-2 c = search needs
-
-returns-3 : tie.Need-returns-3
-returns-3 c =
-    let z = c .before .before .before .before .before .before .before .before .before .before .before .before .before .before .before .before .before in
-    let s = now (z .args .sheet) in
-    let ws = now (z .args .words) in
-    let sees = z .pre .0 .sees in
-    let asked = c .before .before .before .before .before .before .before .before .before .before .before .mark-refusal .ensures in
-    let accepted = sym (asked .0 (ledgerOf s) sees) ∙ c .before .before .before .before .before .before .before .before .before .if1 .left in
-    let mark = c .before .before .before .mark in (
-      ap (λ b. Gets (cond b Pass Fail)) (sym (c .if2 .left))
-          ∙ marked-as (ledgerOf s) ws accepted (unknowns-few s) (replicate claimRoom 0) (asked .1) sees (c .before .before .before .before .before .before .before .before .wide .result)
-          (c .before .before .before .before .before .before .before .before .wide .ensures) (reads-allowed s (mark-opened (ledgerOf s) ws accepted)) _ (z .pre .0 .equations (mark-opened (ledgerOf s) ws accepted)) (mark .result) (mark .ensures .0),
+    let asked = c .before .before .before .before .before .before .before .before .before .before .mark-refusal .ensures in
+    let accepted = sym (asked .0 (ledgerOf s) sees) ∙ c .before .before .before .before .before .before .before .before .if1 .left in
+    let mark = c .before .before .mark in (
+      marked-as (ledgerOf s) ws accepted (unknowns-few s) (replicate claimRoom 0) (asked .1) sees (c .before .before .before .before .before .before .before .wide .result)
+          (c .before .before .before .before .before .before .before .wide .ensures) (reads-allowed s (mark-opened (ledgerOf s) ws accepted)) _ (z .pre .0 .equations (mark-opened (ledgerOf s) ws accepted)) (mark .result) (mark .ensures .0),
       mark .ensures .1,
     )
 
@@ -152,6 +130,4 @@ mark-claim-spec =
     part-mark-end-2
     mark-requires
     same-length
-    returns-2
-    same-length-2
-    returns-3)
+    returns-2)

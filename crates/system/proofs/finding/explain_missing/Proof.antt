@@ -1,4 +1,5 @@
--- `finding::explain_missing` meets its contract: the place where a step is missing decides, and a solution is read off there.
+-- `finding::explain_missing` meets its contract: the place where a step is missing decides, and a solution is read off there. Where none is
+-- missing, the first superfluous step is named.
 use mathlib.Core.Path.{sym, _∙_}
 use native.Mathlib.Omega.{arith}
 use borrow.Author.Needs.{needs}
@@ -8,7 +9,7 @@ use Rattle.equations.proofs.Vectors.{vector-length, vector-below}
 use Rattle.system.specs.Ready.{zeros-ready}
 use Rattle.system.specs.Ready.Kept.{prepared-ready}
 use Rattle.system.proofs.Prepared.{room-within, room-length, prepared-front}
-use Rattle.system.proofs.Explained.{found-right, found-above, found-missed}
+use Rattle.system.proofs.Explained.{found-right-for, found-right, found-above, found-missed}
 use Rattle.system.proofs.finding.explain_missing.Statement.{statement}
 use Rattle.system.proofs.finding.explain_missing.Tie as tie
 
@@ -53,16 +54,33 @@ missing-requires c κs =
     let based = prepared-front (a .m) (a .n) (now (a .lines)) _ (c .before .before .before .prepare .ensures) (size .result) (size .ensures) in
     (omega (arith, posed .modulus), posed .hasUnknowns, posed .unknowns, based .readable .size, z .pre .0 .2)
 
--- no step is missing
-returns : tie.Need-returns
-returns c =
+needless-requires : tie.Need-needless-requires
+needless-requires c κs =
     let z = c .before .before .before .before .before .before .before .before .before .before .before in
     let a = z .args in
     let size = c .before .before .before .packed-size in
-    let place = c .before .missing in
-    found-right (a .m) (a .n) (now (a .lines)) _ (now (a .start)) (now (a .steps)) (z .pre .0 .0)
-    (prepared-front (a .m) (a .n) (now (a .lines)) _ (c .before .before .before .before .before .prepare .ensures) (size .result) (size .ensures)) (z .pre .0 .1) (z .pre .0 .2)
-    (z .pre .1 .0) (z .pre .1 .1) (place .result) (place .ensures) (c .if1 .taken) (now (a .shown))
+    let based = prepared-front (a .m) (a .n) (now (a .lines)) _ (c .before .before .before .before .before .prepare .ensures) (size .result) (size .ensures) in (
+      (z .pre .0 .0 .modulus, z .pre .0 .0 .hasUnknowns, z .pre .0 .0 .unknowns, based .readable .size),
+      (z .pre .0 .2, z .pre .0 .3),
+    )
+
+right-reason-requires : tie.Need-right-reason-requires
+right-reason-requires c κs = search needs
+
+-- no step is missing
+returns : tie.Need-returns
+returns c =
+    let z = c .before .before .before .before .before .before .before .before .before .before .before .before .before in
+    let a = z .args in
+    let size = c .before .before .before .before .before .packed-size in
+    let place = c .before .before .before .missing in
+    let step = c .before .needless in
+    let based = prepared-front (a .m) (a .n) (now (a .lines)) _ (c .before .before .before .before .before .before .before .prepare .ensures) (size .result) (size .ensures) in
+    let right = found-right-for (a .m) (a .n) (now (a .lines)) _ (now (a .start)) (now (a .steps)) (z .pre .0 .0) based (z .pre .0 .1) (z .pre .0 .2)
+    (z .pre .1 .0) (z .pre .1 .1) (place .result) (place .ensures) (c .before .before .if1 .taken) in
+    found-right (a .m) (a .n) (now (a .lines)) _ (now (a .start)) (now (a .steps)) (z .pre .0 .0) based (z .pre .0 .1) (z .pre .0 .2)
+    (z .pre .1 .0) (z .pre .1 .1) (place .result) (place .ensures) (c .before .before .if1 .taken) (step .result) (step .ensures _ (now (a .start)) right)
+    (c .right-reason .result) (c .right-reason .ensures) (now (a .shown))
 
 slice-relend-prefix-missed-into : tie.Need-slice-relend-prefix-missed-into
 slice-relend-prefix-missed-into c = search needs
@@ -118,6 +136,8 @@ explain-missing-spec =
     array-share-prefix-rows
     slice-aggregate-basis
     missing-requires
+    needless-requires
+    right-reason-requires
     returns
     slice-relend-prefix-missed-into
     slice-aggregate-missed-into
