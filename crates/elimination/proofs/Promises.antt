@@ -1,6 +1,5 @@
 -- The promise of `equations` whose proof takes spans, kept.
 use mathlib.Core.Path.{sym, subst}
-use mathlib.Core.Logic.{Iff·trans, Iff·symm}
 use lib.Dec.{T}
 use Rattle.equations.specs.Promises.{StepLeftOut}
 use Rattle.equations.proofs.Superfluous.{superfluous-exists}

@@ -22,7 +22,6 @@ use lib.ListN.{length}
 use lib.Dec.{T, eqb→eq}
 use Rattle.slices.specs.Over.{over}
 use Rattle.slices.proofs.Over.{over-front}
-use Rattle.equations.specs.declared.Mark.the-variants.{Pass}
 use Rattle.equations.specs.Line.{Line}
 use Rattle.equations.proofs.LinePromises.{line-no-start}
 use Rattle.system.proofs.Lines.{line-start-found}

@@ -7,12 +7,12 @@
 --   all-needed                  there are at most as many as free unknowns
 --   relations-posed             their system may be asked
 --   place-found                 the place that its answer tells is that of the first superfluous step
-use mathlib.Core.Path.{_≡_, refl, sym, ap, ap₂, _∙_, subst}
+use mathlib.Core.Path.{_≡_, refl, sym, ap, _∙_, subst}
 use mathlib.Core.List.{List, _++_}
 use Prim.Native.Nat.{ℕ, zero, suc, _+_, _*_, _/_, _%_, _<_, _≤_}
 use native.Mathlib.Nat.{div-le-of-le-mul, mul-le-mul, mul-mod-left}
 use native.Mathlib.Omega.{arith}
-use lib.ListN.{length, take, drop, replicate}
+use lib.ListN.{length, take, drop}
 use lib.Seq.{take-at}
 use Rattle.slices.proofs.Over.{over-front}
 use Rattle.equations.specs.Vectors.{AllVectors, Below}

@@ -11,7 +11,7 @@ use Prim.Native.Nat.{ℕ, zero, suc, _+_, _-_, _*_, _<_, _≤_}
 use native.Mathlib.Nat.{mul-le-mul}
 use native.Mathlib.Numerals.{add-one}
 use native.Mathlib.Omega.{arith}
-use lib.ListN.{length, take, drop, getD, replicate, length-append, length-map, length-drop, length-replicate, getD-replicate, List·getD-append, set}
+use lib.ListN.{length, take, drop, getD, replicate, length-append, length-map, length-drop, length-replicate, getD-replicate, set}
 use lib.Seq.{length-take-le, take-suc, take-length, take-at, getD-at, set-getD}
 use Rattle.slices.specs.Over.{over}
 use Rattle.slices.proofs.Over.{over-past, over-whole, over-one, over-within}
@@ -106,15 +106,22 @@ module _ (n k : ℕ) (steps : List ℕ) where
           size = omega (arith, length-append (r .numbers) line, r .size, line-long);
           equations =
               equations-snoc p k (r .numbers) line (r .size) line-long
-              ∙ ap₂ {C = List Equation} (λ es e. es ++ (e ∷ [])) (r .equations) (line-is ∙ sym (across-at 0 p p ss (replicate n 0) none (omega (arith, length-replicate {A = ℕ} n 0)) (omega arith)))
-              ∙ sym (ap (λ (c : ℕ). take c (relations n ss)) (add-one p) ∙ take-suc (relations n ss) p none (omega (arith, length-across 0 ss (replicate n 0), length-replicate {A = ℕ} n 0)));
-          residues = λ m pos below. below-append m (r .numbers) line (r .residues m pos below) (below-append m entries (0 ∷ []) (entries-below m n p ss pos (vectors-listed m n steps below)) (pos, tt));
+              ∙ ap₂ {C = List Equation} (λ es e. es ++ (e ∷ [])) (r .equations)
+              (line-is ∙ sym (across-at 0 p p ss (replicate n 0) none (omega (arith, places)) (omega arith)))
+              ∙ sym (ap (λ (c : ℕ). take c (relations n ss)) (add-one p)
+              ∙ take-suc (relations n ss) p none (omega (arith, length-across 0 ss (replicate n 0), places)));
+          residues = λ m pos below.
+              below-append m (r .numbers) line (r .residues m pos below)
+              (below-append m entries (0 ∷ []) (entries-below m n p ss pos (vectors-listed m n steps below)) (pos, tt));
           written =
               over-within (p * (k + 1)) e (r .numbers) entries old (r .size) (omega (arith, long)) (r .written) is
               ∙ over-kept (r .numbers ++ entries) old 0 (omega (arith, related-room at, length-append (r .numbers) entries, r .size, long)) stands
               ∙ ap (λ (xs : List ℕ). over xs old) (append-assoc (r .numbers) entries (0 ∷ []));
         }
       where
+        places : length (replicate {A = ℕ} n 0) ≡ n
+        places = length-replicate n 0
+
         none : Equation
         none = record { coefficients = []; right = 0 }
 

@@ -130,7 +130,13 @@ explain-missing-requires c κs =
     let claim = now (a .claim) in
     let broken = c .before .before .before .before .before .first-broken in
     let change = c .before .before .before .first-change in (
-      (z .pre .0, start-vector (a .m) (a .n) claim (z .pre .1) (c .before .before .before .before .before .before .before .before .if1 .left), below-lent (a .m) (a .n) claim (z .pre .1 .residues), omega (arith, lent-length (a .n) claim, z .pre .1 .vectors), z .pre .2),
+      (
+        z .pre .0,
+        start-vector (a .m) (a .n) claim (z .pre .1) (c .before .before .before .before .before .before .before .before .if1 .left),
+        below-lent (a .m) (a .n) claim (z .pre .1 .residues),
+        omega (arith, lent-length (a .n) claim, z .pre .1 .vectors),
+        z .pre .2,
+      ),
       (
         start-right (a .m) es (take (a .n) claim) (broken .result) (broken .ensures) (c .before .before .before .before .if2 .left),
         steps-right (a .m) es (vectorsOf (a .n) (lent (a .n) claim)) (change .result .step) (change .ensures .0) (c .before .if3 .left),

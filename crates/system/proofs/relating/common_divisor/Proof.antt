@@ -1,9 +1,9 @@
 -- `relating::common_divisor` meets its contract. The invariant: with the entries of the vectors that are left, the divisor so far has the
 -- common divisor of all. The measure is what is left.
-use mathlib.Core.Path.{_≡_, refl, sym, ap, _∙_}
+use mathlib.Core.Path.{_≡_, refl, ap, _∙_}
 use Prim.Native.Nat.{ℕ}
 use native.Mathlib.Omega.{arith}
-use lib.ListN.{length, getD}
+use lib.ListN.{length}
 use borrow.Author.Needs.{needs}
 use denote.Ref.{now}
 use Rattle.slices.proofs.Parts.{lent}

@@ -1,6 +1,6 @@
 -- `relating::first_coprime` meets its contract. The invariant: from place j on the same is found as from the first on. The measure is what is
 -- left.
-use mathlib.Core.Path.{_≡_, refl, sym, ap, _∙_}
+use mathlib.Core.Path.{_≡_, sym, ap, _∙_}
 use Prim.Native.Nat.{ℕ, _-_, _≤_}
 use native.Mathlib.Omega.{arith}
 use lib.Dec.{eqb}

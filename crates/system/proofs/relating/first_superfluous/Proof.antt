@@ -1,14 +1,13 @@
 -- `relating::first_superfluous` meets its contract: the system of the relations lies in the front of an array of zeros, and its answer tells the step.
-use mathlib.Core.Path.{_≡_, refl, sym, ap, _∙_}
+use mathlib.Core.Path.{_≡_, refl, sym, _∙_}
 use mathlib.Core.List.{List}
-use Prim.Native.Nat.{ℕ, _+_, _*_, _/_, _≤_, _<_}
+use Prim.Native.Nat.{ℕ, _+_, _*_, _/_, _≤_}
 use native.Mathlib.Omega.{arith}
-use lib.ListN.{length, take, drop, replicate}
+use lib.ListN.{length, take, replicate}
 use lib.Seq.{length-take-le}
 use borrow.Author.Needs.{needs}
 use denote.Ref.{now}
 use Rattle.slices.proofs.Parts.{joined-fit, relent-length}
-use Rattle.system.specs.Claims.{vectorsOf}
 use Rattle.system.proofs.Fronts.{lent-zeros}
 use Rattle.system.proofs.Generators.{vectors-count, steps-few, lines-room, none-found, relations-posed, place-found}
 use Rattle.system.proofs.relating.first_superfluous.Statement.{statement}
@@ -62,21 +61,24 @@ array-share-prefix-lines : tie.Need-array-share-prefix-lines
 array-share-prefix-lines c =
     let z = c .before .before .before .before .before in
     let lines = c .before .relations-into in
-    joined-fit _ (replicate 272 0) (lines .last .1 .1 .1 .0) (long (z .args .n) (now (z .args .steps)) (lines .last .1 .1 .1 .0) (z .pre .2) (z .pre .4) (lines .kept .1 .1 .1 .0))
+    let size = long (z .args .n) (now (z .args .steps)) (lines .last .1 .1 .1 .0) (z .pre .2) (z .pre .4) (lines .kept .1 .1 .1 .0) in
+    joined-fit _ (replicate 272 0) (lines .last .1 .1 .1 .0) size
 
 slice-aggregate-first-unit : tie.Need-slice-aggregate-first-unit
 slice-aggregate-first-unit c =
     let z = c .before .before .before .before .before .before in
     let lines = c .before .before .relations-into in
-    sym (relent-length _ (replicate 272 0) (lines .last .1 .1 .1 .0) (long (z .args .n) (now (z .args .steps)) (lines .last .1 .1 .1 .0) (z .pre .2) (z .pre .4) (lines .kept .1 .1 .1 .0)))
+    let size = long (z .args .n) (now (z .args .steps)) (lines .last .1 .1 .1 .0) (z .pre .2) (z .pre .4) (lines .kept .1 .1 .1 .0) in
+    sym (relent-length _ (replicate 272 0) (lines .last .1 .1 .1 .0) size)
 
 first-unit-requires : tie.Need-first-unit-requires
 first-unit-requires c κs =
     let z = c .before .before .before .before .before .before in
     let a = z .args in
     let lines = c .before .before .relations-into in
-    let few = steps-few (a .n) (now (a .steps)) (z .pre .4) in
-    relations-posed (a .m) (a .n) (length (now (a .steps)) / a .n) (lines .last .1 .1 .1 .0) _ (long (z .args .n) (now (z .args .steps)) (lines .last .1 .1 .1 .0) (z .pre .2) (z .pre .4) (lines .kept .1 .1 .1 .0)) (z .pre .0) (z .pre .2) (omega (arith, c .before .before .before .before .if1 .left)) few
+    let size = long (a .n) (now (a .steps)) (lines .last .1 .1 .1 .0) (z .pre .2) (z .pre .4) (lines .kept .1 .1 .1 .0) in
+    relations-posed (a .m) (a .n) (length (now (a .steps)) / a .n) (lines .last .1 .1 .1 .0) _ size (z .pre .0) (z .pre .2)
+    (omega (arith, c .before .before .before .before .if1 .left)) (steps-few (a .n) (now (a .steps)) (z .pre .4))
     (lines .ensures .1 (a .m) (omega (arith, z .pre .0)) (z .pre .3))
 
 returns-2 : tie.Need-returns-2
@@ -84,8 +86,9 @@ returns-2 c =
     let z = c .before .before .before .before .before .before .before in
     let a = z .args in
     let lines = c .before .before .before .relations-into in
+    let size = long (a .n) (now (a .steps)) (lines .last .1 .1 .1 .0) (z .pre .2) (z .pre .4) (lines .kept .1 .1 .1 .0) in
     c .first-unit .ensures
-    ∙ place-found (a .m) (a .n) (length (now (a .steps)) / a .n) (lines .last .1 .1 .1 .0) _ (long (z .args .n) (now (z .args .steps)) (lines .last .1 .1 .1 .0) (z .pre .2) (z .pre .4) (lines .kept .1 .1 .1 .0)) (now (a .steps)) (omega (arith, z .pre .0)) (z .pre .3)
+    ∙ place-found (a .m) (a .n) (length (now (a .steps)) / a .n) (lines .last .1 .1 .1 .0) _ size (now (a .steps)) (omega (arith, z .pre .0)) (z .pre .3)
     (vectors-count (a .n) (now (a .steps))) (lines .ensures .0)
 
 pub first-superfluous-spec : {M : Type 1} → statement M

@@ -1,12 +1,10 @@
 -- `relating::long_at` meets its contract: a claim of no solution has no steps, and any other one has them behind its start.
 use mathlib.Core.Path.{sym, ap, subst, _∙_}
-use mathlib.Core.List.{List}
 use native.Mathlib.Omega.{arith}
 use lib.ListN.{take}
 use borrow.Author.Needs.{needs}
 use denote.Ref.{now}
 use Rattle.slices.proofs.Parts.{lent-length}
-use Rattle.equations.specs.Claim.{Claim}
 use Rattle.equations.specs.Marks.{superfluousIn}
 use Rattle.tableau.proofs.Lines.{below-lent}
 use Rattle.system.specs.Model.Marking.{RightFor}
