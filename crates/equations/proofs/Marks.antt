@@ -13,7 +13,7 @@ use Rattle.equations.specs.declared.Mark.{Mark}
 use Rattle.equations.specs.declared.Mark.the-variants.{Pass, Long, Fail}
 use Rattle.equations.specs.Equation.{Equation}
 use Rattle.equations.specs.Claim.{Claim, isRight}
-use Rattle.equations.specs.Marks.{superfluousIn, markWith, markOf, HasSuperfluous, Tells}
+use Rattle.equations.specs.Marks.{superfluousIn, markWith, markOf, HasSuperfluous, MarkTells}
 use Rattle.equations.proofs.Superfluous.{has-superfluous, none-superfluous}
 
 pub record Apart {A : Type 0} (shown : Mark → A) : Type 0 where
@@ -23,7 +23,7 @@ pub record Apart {A : Type 0} (shown : Mark → A) : Type 0 where
 
 module _ {A : Type 0} (shown : Mark → A) (apart : Apart shown) where
   by-parts : {Right Has : Type 0} (b : Bool) (k : ℕ) → T b ↔ Right → (k ≡ 0 → Has → ⊥) → ((j : ℕ) → k ≡ suc j → Has)
-      → Tells shown Right Has (shown (markWith b k))
+      → MarkTells shown Right Has (shown (markWith b k))
   by-parts false k same never has = record {
     right = (⊎-elim (λ e. absurd (apart .pass-fail (sym e))) (λ e. absurd (apart .long-fail (sym e))), λ right. absurd (same .1 right));
     failed = ((λ e. same .1), λ wrong. refl);
@@ -45,7 +45,7 @@ module _ {A : Type 0} (shown : Mark → A) (apart : Apart shown) where
 
   -- by the test of whether the set is right
   pub mark-tells : (m n : ℕ) (claim : Claim) {Right : Type 0} (b : Bool) → T b ↔ Right
-      → Tells shown Right (HasSuperfluous m n claim) (shown (markWith b (superfluousIn m n claim)))
+      → MarkTells shown Right (HasSuperfluous m n claim) (shown (markWith b (superfluousIn m n claim)))
   mark-tells m n claim b same = by-parts b (superfluousIn m n claim) same (none-superfluous m n claim) (has-superfluous m n claim)
 
 marks-apart : Apart (λ mark. mark)
@@ -56,6 +56,6 @@ marks-apart = record {
 }
 
 pub right-but-long : (m n : ℕ) (es : List Equation) (claim : Claim)
-    → Tells (λ mark. mark) (T (isRight m n es claim)) (HasSuperfluous m n claim) (markOf m n es claim)
+    → MarkTells (λ mark. mark) (T (isRight m n es claim)) (HasSuperfluous m n claim) (markOf m n es claim)
 unfolding markOf
 right-but-long m n es claim = mark-tells (λ mark. mark) marks-apart m n claim (isRight m n es claim) ((λ t. t), λ t. t)

@@ -75,7 +75,7 @@ pub record FirstSuperfluous (m n : ℕ) (ss : List (List ℕ)) (i : ℕ) : Type 
 
 -- The mark of a claim tells whether its described set is right and whether it has a superfluous step. `shown` is how a mark looks, as an
 -- answer, a byte or a line, and x is what the claim gets.
-pub record Tells {A : Type 0} (shown : Mark → A) (Right Has : Type 0) (x : A) : Type 0 where
+pub record MarkTells {A : Type 0} (shown : Mark → A) (Right Has : Type 0) (x : A) : Type 0 where
   -- "demand 3 is shown again with pass or long where it says passed"
   pub right : ((x ≡ shown Pass) ⊎ (x ≡ shown Long)) ↔ Right
   pub failed : (x ≡ shown Fail) ↔ (Right → ⊥)

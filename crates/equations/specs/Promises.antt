@@ -18,7 +18,7 @@ use Rattle.equations.specs.Whole.{HoldsWhole}
 use Rattle.equations.specs.Answer.{startOf, isStep, stepAt, stepsOf, leading, rangeOf, rangeProduct}
 use Rattle.equations.specs.Multipliers.{refutes}
 use Rattle.equations.specs.Claim.{Claim, noSolution, from, isRight}
-use Rattle.equations.specs.Marks.{markOf, SuperfluousStep, HasSuperfluous, Tells}
+use Rattle.equations.specs.Marks.{markOf, SuperfluousStep, HasSuperfluous, MarkTells}
 
 -- "Vectors of n residues stand in dictionary order": of two different ones just one comes before the other, and what comes
 -- before v comes before whatever v is before. So at most one vector is the first that passes a test.
@@ -133,7 +133,7 @@ ContradictoryEquation =
 abbrev pub RightButLong : Type 0
 RightButLong =
     (m n : ℕ) (es : List Equation) (claim : Claim)
-    → Tells (λ mark. mark) (T (isRight m n es claim)) (HasSuperfluous m n claim) (markOf m n es claim)
+    → MarkTells (λ mark. mark) (T (isRight m n es claim)) (HasSuperfluous m n claim) (markOf m n es claim)
 
 -- "The zero vector as a step is always superfluous."
 abbrev pub ZeroStep : Type 0

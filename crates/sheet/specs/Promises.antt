@@ -22,7 +22,7 @@ use Rattle.equations.specs.declared.Mark.{Mark}
 use Rattle.equations.specs.declared.Mark.the-variants.{Pass, Long}
 use Rattle.equations.specs.declared.Reason.{Reason}
 use Rattle.equations.specs.Claim.{Claim, describes}
-use Rattle.equations.specs.Marks.{markNumber, HasSuperfluous, Tells}
+use Rattle.equations.specs.Marks.{markNumber, HasSuperfluous, MarkTells}
 use Rattle.equations.specs.Reasons.{markBeside}
 use Rattle.equations.specs.Line.{Line, holdsOne, holds, lineStart, lineSteps, lineRefutes}
 use Rattle.equations.specs.LineReasons.{LineSays}
@@ -93,7 +93,7 @@ DescribesSolutions m n ls claim = (v : List ℕ) → T (describes m claim v) ↔
 -- "passed exactly when the vectors it describes are the vectors that solve all those equations, and failed otherwise", with "pass or long
 -- where it says passed": x is what the claim gets, and `shown` how a mark looks
 abbrev pub RightMark : {A : Type 0} → (Mark → A) → ℕ → ℕ → List Line → Claim → A → Type 0
-RightMark shown m n ls claim x = Tells shown (DescribesSolutions m n ls claim) (HasSuperfluous m n claim) x
+RightMark shown m n ls claim x = MarkTells shown (DescribesSolutions m n ls claim) (HasSuperfluous m n claim) x
 
 -- What demand 3 says of a sheet whose ledger has m, n and ls.
 pub record RightSheet (s : Sheet) (m n : ℕ) (ls : List Line) : Type 0 where
