@@ -117,14 +117,14 @@ struct Calls {
     case: Case,
     works: Vec<(Sheet, Vec<u32>)>,
     at: [u32; 3],
-    out: [u32; 16],
+    out: [u32; 32],
 }
 
 impl Calls {
     fn new(case: Case) -> Calls {
         let mut random = Random::new();
         let works = (0..64).map(|_| work(case, &mut random)).collect();
-        let mut calls = Calls { case, works, at: [0; 3], out: [0; 16] };
+        let mut calls = Calls { case, works, at: [0; 3], out: [0; 32] };
         let (mark, reason, step) = case.kind.expected();
         for i in 0..64 {
             let result = calls.call(i);
@@ -139,7 +139,7 @@ impl Calls {
         let (words, length) = (claim.as_ptr(), claim.len());
         unsafe {
             if self.case.reason {
-                milebadger_reason(sheet, words, length, self.at.as_mut_ptr(), 3, self.out.as_mut_ptr(), 16)
+                milebadger_reason(sheet, words, length, self.at.as_mut_ptr(), 3, self.out.as_mut_ptr(), 32)
             } else {
                 milebadger_mark(sheet, words, length)
             }

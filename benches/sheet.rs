@@ -28,14 +28,24 @@ pub fn word(kind: u32, number: u64) -> u32 {
     kind << 28 | number as u32
 }
 
+/// A word of any number, with one of kind 13 in front from 2^28 on.
+pub fn written(kind: u32, number: u64) -> Vec<u32> {
+    let low = word(kind, number % (1 << 28));
+    if number < 1 << 28 {
+        vec![low]
+    } else {
+        vec![word(13, number >> 28), low]
+    }
+}
+
 pub fn opening(m: u64, n: usize) -> Vec<u32> {
-    vec![word(1, m), word(2, n as u64)]
+    [written(1, m), vec![word(2, n as u64)]].concat()
 }
 
 /// The words of a line: its coefficients, and its right side behind them.
 pub fn line(numbers: &[u64]) -> Vec<u32> {
     let (&right, coefficients) = numbers.split_last().unwrap();
-    coefficients.iter().map(|&a| word(3, a)).chain([word(4, right)]).collect()
+    coefficients.iter().flat_map(|&a| written(3, a)).chain(written(4, right)).collect()
 }
 
 /// A sheet with the words of this opening and of these lines, which are accepted.
@@ -50,7 +60,7 @@ pub fn filled(opening: &[u32], lines: &[Vec<u32>]) -> Sheet {
 
 /// The block that the sheet's answer writes.
 pub fn block(sheet: &Sheet) -> Vec<u32> {
-    let mut block = vec![0; 273];
+    let mut block = vec![0; 545];
     let wrote = unsafe { milebadger_answer(sheet, block.as_mut_ptr(), block.len()) };
     block.truncate(usize::try_from(wrote).expect("a refusal"));
     block

@@ -25,8 +25,8 @@ static void show_solutions(int32_t a, int32_t b, uint32_t m)
     } else if (result == 0) {
         printf(" none\n");
     } else {
-        for (uint32_t t = found[0]; t < m; t += found[1])
-            printf(" %" PRIu32, t);
+        for (uint64_t t = found[0]; t < m; t += found[1]) /* the last may be just below 2^32 */
+            printf(" %" PRIu64, t);
         printf("\n");
     }
 }
@@ -92,8 +92,9 @@ int main(void)
     show_solutions(4, 6, 12);
     show_solutions(16, -4, 12); /* mod 12 that is 4 t = 8 */
     show_solutions(-1, 1, 65535);
+    show_solutions(-3, 6, 4294967295);
 
-    show_solutions(5, 1, 65536);
+    show_solutions(5, 1, 1);
 
     show_answer(12, (const uint32_t[]){2, 3, 5, 4, 6, 10});
     show_answer(2, (const uint32_t[]){1, 1, 1, 1, 1, 0});

@@ -42,8 +42,8 @@ static void show_contradiction(const struct page *page, int64_t held, const uint
  * a vector is one word. */
 static void show_answer(const struct page *page)
 {
-    uint32_t block[MILEBADGER_LONGEST_BLOCK];
-    int64_t count = milebadger_answer(&page->sheet, block, MILEBADGER_LONGEST_BLOCK);
+    uint32_t block[MILEBADGER_LONGEST_BLOCK_WORDS];
+    int64_t count = milebadger_answer(&page->sheet, block, MILEBADGER_LONGEST_BLOCK_WORDS);
     if (!made(count))
         return;
     if (MILEBADGER_NUMBER(block[0]) == 0)

@@ -69,12 +69,12 @@ static bool open_sheet(milebadger_sheet *sheet, uint32_t m, const char *equation
 
 int main(void)
 {
-    uint32_t block[MILEBADGER_LONGEST_BLOCK];
+    uint32_t block[MILEBADGER_LONGEST_BLOCK_WORDS];
     milebadger_sheet sheet = {0};
 
     if (!open_sheet(&sheet, 4, "x1 + 2*x2 = 0"))
         return 1;
-    if (made(milebadger_answer(&sheet, block, MILEBADGER_LONGEST_BLOCK)))
+    if (made(milebadger_answer(&sheet, block, MILEBADGER_LONGEST_BLOCK_WORDS)))
         mark_words(&sheet, "The answer", block); /* twice 2 1 is 0 2 */
     mark_claim(&sheet, "Ada", 2, (const uint32_t[]){0, 0, 2, 3});
     mark_claim(&sheet, "Ben", 3, (const uint32_t[]){2, 1, 2, 1, 2, 3}); /* each is three times the other */

@@ -50,8 +50,8 @@ static bool strike_line(struct page *page, uint32_t place)
 /* The starting vector and the steps, as entries of two unknowns. */
 static void show_answer(const struct page *page)
 {
-    uint32_t block[MILEBADGER_LONGEST_BLOCK];
-    int64_t count = milebadger_answer(&page->sheet, block, MILEBADGER_LONGEST_BLOCK);
+    uint32_t block[MILEBADGER_LONGEST_BLOCK_WORDS];
+    int64_t count = milebadger_answer(&page->sheet, block, MILEBADGER_LONGEST_BLOCK_WORDS);
     if (!made(count))
         return;
     if (MILEBADGER_NUMBER(block[0]) == 0)

@@ -58,7 +58,7 @@ static void show_refusals(void)
 {
     const uint32_t words[] = {
         MILEBADGER_ANSWER, /* not opened yet */
-        MILEBADGER_MODULUS(65536), MILEBADGER_UNKNOWNS(1),
+        MILEBADGER_MODULUS(1), MILEBADGER_UNKNOWNS(1),
         MILEBADGER_MODULUS(12), MILEBADGER_UNKNOWNS(1),
         MILEBADGER_COEFFICIENT(4), MILEBADGER_RIGHT(8),
         MILEBADGER_HEAD(1), MILEBADGER_ENTRY(12), /* 12 is no residue mod 12 */

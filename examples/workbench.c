@@ -135,9 +135,9 @@ static void show_mark(int64_t mark)
 /* The hint page. The block is handed back as a claim too; where there is no solution, its head alone. */
 static void show_answer(const struct page *page)
 {
-    uint32_t block[MILEBADGER_LONGEST_BLOCK];
+    uint32_t block[MILEBADGER_LONGEST_BLOCK_WORDS];
     printf("%s asks for the answer\n", page->student);
-    int64_t count = milebadger_answer(&page->sheet, block, MILEBADGER_LONGEST_BLOCK);
+    int64_t count = milebadger_answer(&page->sheet, block, MILEBADGER_LONGEST_BLOCK_WORDS);
     if (!made(count))
         return;
     uint32_t vectors = MILEBADGER_NUMBER(block[0]);
@@ -184,7 +184,7 @@ int main(void)
     mark_claim(&ada, 2, (const uint32_t[]){1, 1, 0, 4}); /* three of the twelve */
 
     show_answer(&ben);
-    open_sheet(&ben, 65536, 3);
+    open_sheet(&ben, 1, 3);
     open_sheet(&ben, 2, 3);
     strike_line(&ben);
     type_line(&ben, "x1 + x2 = 1");

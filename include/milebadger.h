@@ -15,14 +15,14 @@
  *         const uint8_t equation[] = "x1 + 2*x2 = 0";
  *         const uint32_t claim[] = {MILEBADGER_HEAD(2), MILEBADGER_ENTRY(0), MILEBADGER_ENTRY(0),
  *                                   MILEBADGER_ENTRY(2), MILEBADGER_ENTRY(3)};
- *         uint32_t block[MILEBADGER_LONGEST_BLOCK];
+ *         uint32_t block[MILEBADGER_LONGEST_BLOCK_WORDS];
  *         milebadger_sheet sheet = {0};
  *
  *         int64_t result = milebadger_open(&sheet, opening, 2);
  *         if (result >= 0)
  *             result = milebadger_add_text(&sheet, equation, sizeof equation - 1);
  *         if (result >= 0)
- *             result = milebadger_answer(&sheet, block, MILEBADGER_LONGEST_BLOCK);
+ *             result = milebadger_answer(&sheet, block, MILEBADGER_LONGEST_BLOCK_WORDS);
  *         for (int64_t i = 0; i < result; i++)
  *             printf("%" PRIu32 "%c", MILEBADGER_NUMBER(block[i]), i + 1 < result ? ' ' : '\n');
  *         if (result >= 0)
@@ -36,6 +36,9 @@
  *
  * It prints `3 0 0 2 1 0 2` (three vectors: the start 0 0, and the steps 2 1 and 0 2), then `pass`. The answer itself, as a
  * claim, would be `long`: its steps lead to the same vectors, but 0 2 is twice 2 1.
+ *
+ * Mod 4 each number is small, and has one word. With moduli above 2^28 some have two, as "Words" below says:
+ * milebadger_write and milebadger_read know which.
  *
  * Every input has its answer: no call fails, loops or reads or writes outside the memory that it is lent.
  *
@@ -66,11 +69,11 @@
 extern "C" {
 #endif
 
-/* This header's version: 10,000 times its first number, 100 times its second and its third; 30000 is 3.0.0. The header
+/* This header's version: 10,000 times its first number, 100 times its second and its third; 40000 is 4.0.0. The header
  * goes with its library. As long as the first number is the same, a sheet keeps its size, and the calls keep their
  * arguments and what their results mean; a program that loads the shared library can ask for that when it starts:
  * milebadger_version() / 10000 == MILEBADGER_VERSION / 10000. */
-#define MILEBADGER_VERSION 30000
+#define MILEBADGER_VERSION 40000
 
 /* The library's version.
  *
@@ -103,6 +106,7 @@ uint32_t milebadger_version(void);
 #define MILEBADGER_REFUSED_CLAIMS (-14)
 #define MILEBADGER_REFUSED_OWN_MODULUS (-15)
 #define MILEBADGER_REFUSED_PLACE (-16)
+#define MILEBADGER_REFUSED_TOP (-17)
 
 /* What a result says, in plain English: "done" where the call was made, else why it was refused. */
 static inline const char *milebadger_sentence(int64_t result)
@@ -113,7 +117,7 @@ static inline const char *milebadger_sentence(int64_t result)
     case MILEBADGER_REFUSED_SHAPE:
         return "wrong shape: not what this call takes, or not as much of it";
     case MILEBADGER_REFUSED_MODULUS:
-        return "the modulus is below 2 or too large";
+        return "the modulus is below 2";
     case MILEBADGER_REFUSED_UNKNOWNS:
         return "the number of unknowns, or of locks, is not from 1 to 16";
     case MILEBADGER_REFUSED_UNOPENED:
@@ -142,6 +146,8 @@ static inline const char *milebadger_sentence(int64_t result)
         return "the equation's own modulus is below 2 or does not divide the sheet's";
     case MILEBADGER_REFUSED_PLACE:
         return "the place is beyond the equations that are held";
+    case MILEBADGER_REFUSED_TOP:
+        return "a word of kind 13 stands where none may, or its number is not from 1 to 15";
     default:
         return "no result of this library";
     }
@@ -154,7 +160,16 @@ static inline const char *milebadger_sentence(int64_t result)
  * MILEBADGER_STRIKE strikes the last equation, and MILEBADGER_STRIKE_AT(2) the second. A word's number has no sign: one
  * below 0 or above MILEBADGER_LARGEST_NUMBER makes a word of another kind or with another number. In C11 and later, such a
  * constant does not compile. Numbers that are known only when the program runs are not looked at, nor any in C99 and C++.
- * Each macro evaluates its argument once, and is a constant where that is one. */
+ * Each macro evaluates its argument once, and is a constant where that is one.
+ *
+ * A number of 2^28 or more, up to 32 bits, takes two words: MILEBADGER_TOP(number), of kind 13, with its top 4 bits, and
+ * right behind it the word of its kind with the low 28, such as MILEBADGER_MODULUS(MILEBADGER_LOW(number)). These two count
+ * as one word wherever a call or a claim has so many words; words_len, out_len, and results that say how much was written
+ * count both. A sign and a modulus are those of the whole number. A smaller number has no TOP, whose own number would be 0.
+ * TOP may stand before MODULUS, COEFFICIENT, RIGHT, ENTRY, a multiplier, MINUS_COEFFICIENT, MINUS_RIGHT and OWN_MODULUS. Any
+ * other word of kind 13 is misplaced: one before another word or behind all, and one whose number is not from 1 to 15. It
+ * counts as a word of its own, and calls that take it are refused with -17, right before they ask about the shape.
+ * milebadger_write, below, writes one word or two as the number needs them, and milebadger_read reads them. */
 #define MILEBADGER_MODULUS(m) MILEBADGER_WORD(1, m)
 #define MILEBADGER_UNKNOWNS(n) MILEBADGER_WORD(2, n)
 #define MILEBADGER_COEFFICIENT(a) MILEBADGER_WORD(3, a)
@@ -167,30 +182,64 @@ static inline const char *milebadger_sentence(int64_t result)
 #define MILEBADGER_MINUS_COEFFICIENT(a) MILEBADGER_WORD(10, a)
 #define MILEBADGER_MINUS_RIGHT(b) MILEBADGER_WORD(11, b)
 #define MILEBADGER_OWN_MODULUS(q) MILEBADGER_WORD(12, q)
+#define MILEBADGER_TOP(number) ((uint32_t)13 << 28 | (uint32_t)(number) >> 28)
+#define MILEBADGER_LOW(number) ((uint32_t)(number) & MILEBADGER_LARGEST_NUMBER)
 #define MILEBADGER_NUMBER(word) ((uint32_t)(word) & MILEBADGER_LARGEST_NUMBER)
 
-/* What is accepted, at most. Only milebadger_solve takes any modulus. */
-#define MILEBADGER_LARGEST_MODULUS 65535
+/* What is accepted, at most. */
+#define MILEBADGER_LARGEST_MODULUS 4294967295u /* the largest number of 32 bits */
 #define MILEBADGER_MOST_UNKNOWNS 16
 #define MILEBADGER_MOST_EQUATIONS 16
 #define MILEBADGER_MOST_LOCKS 16
 #define MILEBADGER_LARGEST_HEAD 17 /* of a block or a claim: a starting vector, and a step for each unknown */
 #define MILEBADGER_MOST_CLAIMS 64 /* of a class */
-#define MILEBADGER_LARGEST_NUMBER 0x0FFFFFFF /* of a word */
+#define MILEBADGER_LARGEST_NUMBER 0x0FFFFFFF /* of a word without a TOP: 2^28 - 1 */
 #define MILEBADGER_LONGEST_TAPE 65536 /* bytes */
 #define MILEBADGER_LONGEST_TEXT 256 /* bytes */
 
-/* What is written, at most. Numbers of a block: a head, and 17 vectors of 16 entries. Words of a reason: an entry for each
- * unknown, or a multiplier for each equation. Bytes of a line: 4 letters, 16 numbers of 5 digits behind a space each, and
- * 0x0A. Bytes of an answer: such a line for the starting vector, and for 16 steps 16 such lines, in which at least 0, 1,
- * .., 15 numbers in front are 0. */
+/* What is written, at most. Numbers of a block by milebadger_solve: a head, and 17 vectors of 16 entries. The same in words,
+ * by milebadger_answer, and of a claim: one word for the head, and two for each entry. Words of a reason: two for each
+ * unknown's entry, or for each equation's multiplier. Words of a safe's turns: two for each lock. Bytes of a line: 4
+ * letters, 16 numbers of 10 digits behind a space each, and 0x0A. Bytes of an answer: such a line for the starting vector,
+ * and for 16 steps 16 such lines, in which at least 0, 1, .., 15 numbers in front are 0. */
 #define MILEBADGER_LONGEST_BLOCK 273
-#define MILEBADGER_LONGEST_REASON 16
-#define MILEBADGER_LONGEST_LINE 101
-#define MILEBADGER_LONGEST_ANSWER 1237
+#define MILEBADGER_LONGEST_BLOCK_WORDS 545
+#define MILEBADGER_LONGEST_REASON 32
+#define MILEBADGER_LONGEST_TURNS 32
+#define MILEBADGER_LONGEST_LINE 181
+#define MILEBADGER_LONGEST_ANSWER 1997
 
 /* Bytes that are enough for the lines of every tape of `tape_len` bytes: an answer for each word, and `refused 9`. */
 #define MILEBADGER_LINES_ROOM(tape_len) ((size_t)(tape_len) / 4 * MILEBADGER_LONGEST_ANSWER + 10)
+
+/* Writes a word of a kind that a word such as MILEBADGER_ENTRY(0) or MILEBADGER_COEFFICIENT(0) names, with any number of 32
+ * bits: TOP and the word from 2^28 on, else the word alone. So `count += milebadger_write(words + count,
+ * MILEBADGER_ENTRY(0), x)` puts an entry behind others. HEAD and UNKNOWNS, which have no TOP, need it for no number that
+ * they take. There is room for two words at `out`, or the number is below 2^28.
+ *
+ * Returns  how many words it wrote: 1 or 2. */
+static inline size_t milebadger_write(uint32_t *out, uint32_t kind, uint32_t number)
+{
+    size_t count = 0;
+    if (number > MILEBADGER_LARGEST_NUMBER)
+        out[count++] = MILEBADGER_TOP(number);
+    out[count++] = (kind & ~(uint32_t)MILEBADGER_LARGEST_NUMBER) | MILEBADGER_LOW(number);
+    return count;
+}
+
+/* Reads the number of a word that the library or milebadger_write has written, with the TOP in front where it has one. So
+ * `at += milebadger_read(block + at, &number)` goes through a block from its head to its end.
+ *
+ * Returns  how many words it read: 1 or 2. */
+static inline size_t milebadger_read(const uint32_t *words, uint32_t *number)
+{
+    if (words[0] >> 28 != 13) {
+        *number = MILEBADGER_NUMBER(words[0]);
+        return 1;
+    }
+    *number = words[0] << 28 | MILEBADGER_NUMBER(words[1]);
+    return 2;
+}
 
 /* A sheet: a modulus m, a number n of unknowns, and up to 16 equations, each mod m or mod a divisor of it. Zeroed memory
  * is a fresh sheet, which is not opened: `milebadger_sheet sheet = {0};`. It can be copied by assignment, and kept in a
@@ -203,26 +252,28 @@ typedef struct {
 } milebadger_sheet;
 
 /* Opens a sheet, or begins one again: no equations are then held. The words are MODULUS(m), UNKNOWNS(n). (Each name of a
- * word with MILEBADGER_ in front, here and below.)
+ * word with MILEBADGER_ in front, here and below; and a number of 2^28 or more with its TOP.)
  *
- * Asks     Two words, of these kinds? If not, -1.  m from 2 to 65,535? If not, -2.  n from 1 to 16? If not, -3.
+ * Asks     Each TOP in its place? If not, -17.  Two words, of these kinds? If not, -1.  m at least 2? If not, -2.
+ *          n from 1 to 16? If not, -3.
  * Writes   the sheet.
- * Returns  0; or -1, -2, -3. */
+ * Returns  0; or -17, -1, -2, -3. */
 int64_t milebadger_open(milebadger_sheet *sheet, const uint32_t *words, size_t words_len);
 
 /* Adds an equation behind those that are held, also where nothing solves them all any more. The words are a
  * COEFFICIENT(a) for each unknown, or MINUS_COEFFICIENT(a) where it is minus a; then RIGHT(b), or MINUS_RIGHT(b) where it
- * is minus b. Any number of 28 bits will do: it is brought to its residue, 0 to m - 1. So minus 1 is m - 1, and m is 0.
+ * is minus b. Any number of 32 bits will do: it is brought to its residue, 0 to m - 1. So minus 1 is m - 1, and m is 0.
  *
  * In front of them may stand OWN_MODULUS(q), for an equation with a modulus of its own, a divisor of m. A vector then
  * solves it if both sides agree mod q, and its numbers are brought to their residues mod q: mod 3, minus 1 is 2. Vectors
  * stay vectors of residues mod m: on a sheet mod 12, x1 = 2 mod 3 has the solutions 2, 5, 8 and 11, and with x1 = 3 mod 4
  * beside it just 11. Without OWN_MODULUS, and for typed text, q is m.
  *
- * Asks     Opened? If not, -4.  n + 1 words of these kinds, alone or behind one OWN_MODULUS? If not, -1.  q from 2 on,
- *          and a divisor of m? If not, -15.  Fewer than 16 equations held? If not, -5.
+ * Asks     Opened? If not, -4.  Each TOP in its place? If not, -17.  n + 1 words of these kinds, alone or behind one
+ *          OWN_MODULUS? If not, -1.  q from 2 on, and a divisor of m? If not, -15.  Fewer than 16 equations held? If not,
+ *          -5.
  * Writes   the sheet.
- * Returns  how many equations are then held, 1 to 16; or -4, -1, -15, -5. */
+ * Returns  how many equations are then held, 1 to 16; or -4, -17, -1, -15, -5. */
 int64_t milebadger_add(milebadger_sheet *sheet, const uint32_t *words, size_t words_len);
 
 /* Adds an equation that is typed as text, such as 3*(x1 - 2*x2) + x3 = 5 - x1, behind those that are held. The unknowns'
@@ -262,18 +313,23 @@ int64_t milebadger_strike(milebadger_sheet *sheet, uint32_t place);
 /* The answer to the equations that are held, each mod its own modulus. With none, every vector is a solution.
  *
  * Asks     Opened? If not, -4.
- * Needs    out_len at least the block's length. MILEBADGER_LONGEST_BLOCK is enough for every block.
- * Writes   the answer block, as words; MILEBADGER_NUMBER(out[i]) reads their numbers. out[0] is HEAD(h).
- *          An h above 0 is a number of vectors of n words ENTRY(x) each, one behind the other: vector i begins at
- *          out[1 + i * n]. Vector 0 is the starting vector, the others are the steps; milebadger_solve, below, says
- *          which they are and how each solution is written with them. Such a block can be marked as a claim as it is; it
- *          passes or is long, since the form of its steps is fixed and one may follow from the others.
+ * Needs    out_len at least the block's length, where there is a solution. Where there is none, one word, and for each
+ *          equation one, or two if m is above 2^28, also where its multiplier takes one. MILEBADGER_LONGEST_BLOCK_WORDS is
+ *          enough for every block.
+ * Writes   the answer block, as words. out[0] is HEAD(h).
+ *          An h above 0 is a number of vectors of n words ENTRY(x) each, one behind the other. Vector 0 is the starting
+ *          vector, the others are the steps; milebadger_solve, below, says which they are and how each solution is written
+ *          with them. Mod m up to 2^28 each entry has one word: vector i begins at out[1 + i * n], and MILEBADGER_NUMBER
+ *          reads an entry. Above, entries of 2^28 or more have a TOP: milebadger_read reads one behind the other. Such a
+ *          block can be marked as a claim as it is; it passes or is long, since the form of its steps is fixed and one may
+ *          follow from the others.
  *          An h of 0 says that there is no solution. Behind it stands a word of kind 7 for each equation, with its
  *          multiplier: the equations so multiplied add up mod m to coefficients that are 0 and a right side that is not.
  *          An equation with a modulus q of its own has both sides multiplied by m / q first: x1 = 2 mod 3 is
  *          4·x1 = 8 mod 12. Which multipliers, is not promised: check them, do not compare them. As a claim, take the
  *          head alone.
- * Returns  how many words the block has: 1 + h * n, or 1 + the number of equations; or -4, -8. */
+ * Returns  how many words it wrote, each TOP among them: 1 + h * n without these, or 1 + the number of equations; or -4,
+ *          -8. */
 int64_t milebadger_answer(const milebadger_sheet *sheet, uint32_t *out, size_t out_len);
 
 /* Marks a claim about the equations that are held. The words are HEAD(0) for "no solution"; or HEAD(h), h at most 17,
@@ -287,9 +343,9 @@ int64_t milebadger_answer(const milebadger_sheet *sheet, uint32_t *out, size_t o
  * the other. A claim that is not right fails, whatever its steps. HEAD(0), and a start alone, are never long. So a result
  * above 0 says that the claim is right.
  *
- * Asks     Opened? If not, -4.  A head of at most 17 and h * n words behind it, of these kinds? If not, -1.
- *          All entries below m? If not, -6.
- * Returns  MILEBADGER_PASS, MILEBADGER_LONG, MILEBADGER_FAIL; or -4, -1, -6. */
+ * Asks     Opened? If not, -4.  Each TOP in its place? If not, -17.  A head of at most 17 and h * n words behind it, of
+ *          these kinds? If not, -1.  All entries below m? If not, -6.
+ * Returns  MILEBADGER_PASS, MILEBADGER_LONG, MILEBADGER_FAIL; or -4, -17, -1, -6. */
 int64_t milebadger_mark(const milebadger_sheet *sheet, const uint32_t *words, size_t words_len);
 
 /* Marks the claims of a class about the equations that are held: up to 64, each as milebadger_mark marks it alone. What the
@@ -298,13 +354,14 @@ int64_t milebadger_mark(const milebadger_sheet *sheet, const uint32_t *words, si
  * A claim's first word alone decides how many words it takes, and not the kinds of those behind it: HEAD(h), h at most 17,
  * takes 1 + h * n, or all that remain where they are fewer. A larger head takes one word, and so does a word of another
  * kind where a head should stand: each such word is a claim of its own, of wrong shape. So a claim that lacks an entry
- * takes the next claim's head for it, and that one's entries become claims of one word.
+ * takes the next claim's head for it, and that one's entries become claims of one word. A TOP in its place counts with the
+ * word behind it, also where a head should stand; a misplaced one is a word, and a claim that has one is refused with 17.
  *
  * Asks     Opened? If not, -4.  At most 64 claims? If not, -14.
  * Needs    marks_len at least the number of claims. MILEBADGER_MOST_CLAIMS is enough for every class.
  * Writes   a byte for each claim, in their order: MILEBADGER_PASS, MILEBADGER_LONG, MILEBADGER_FAIL, or 100 plus a
- *          refusal's number, which is 1 or 6. MILEBADGER_MARK(marks[i]) is the result that milebadger_mark has for claim
- *          i alone.
+ *          refusal's number, which is 17, 1 or 6. MILEBADGER_MARK(marks[i]) is the result that milebadger_mark has for
+ *          claim i alone.
  * Returns  how many claims there are, which may be 0; or -4, -14, -8. */
 int64_t milebadger_class(const milebadger_sheet *sheet, const uint32_t *words, size_t words_len, uint8_t *marks,
                          size_t marks_len);
@@ -336,20 +393,21 @@ int64_t milebadger_class(const milebadger_sheet *sheet, const uint32_t *words, s
  * unknowns. 6 gives the first superfluous step: without it the claim is still right, and it passes once every step that is
  * so named is left out in turn.
  *
- * A solution is n words ENTRY(x), multipliers are a word of kind 7 for each equation, as in the answer, without a head: so
- * an equation with a modulus q of its own is multiplied by m / q first. The solution of 1 is the answer's starting vector.
- * Which multipliers stand behind 2, and of the solutions that are missed which stands behind 5, is not promised: check
- * them, do not compare them.
+ * A solution is n words ENTRY(x), multipliers are a word of kind 7 for each equation, as in the answer, with a TOP for each
+ * number of 2^28 or more, and without a head. An equation with a modulus q of its own is multiplied by m / q first. The
+ * solution of 1 is the answer's starting vector. Which multipliers stand behind 2, and of the solutions that are missed
+ * which stands behind 5, is not promised: check them, do not compare them.
  *
- * Asks     Opened? If not, -4.  A head of at most 17 and h * n words behind it, of these kinds? If not, -1.
- *          All entries below m? If not, -6.
- * Needs    at_len at least 3, also where the claim passes. out_len at least the number of the reason's words: for 3, 4 and
- *          6, and where the claim passes, 0 will do. MILEBADGER_LONGEST_REASON is enough for every reason.
+ * Asks     Opened? If not, -4.  Each TOP in its place? If not, -17.  A head of at most 17 and h * n words behind it, of
+ *          these kinds? If not, -1.  All entries below m? If not, -6.
+ * Needs    at_len at least 3, also where the claim passes. out_len at least one word for each entry or multiplier of the
+ *          reason, or two if m is above 2^28, also where fewer are written: for 3, 4 and 6, and where the claim passes, 0
+ *          will do. MILEBADGER_LONGEST_REASON is enough for every reason.
  * Writes   at[0]   the step, or 0;
  *          at[1]   the equation, or 0;
- *          at[2]   how many words `out` gets, which may be 0;
+ *          at[2]   how many words `out` gets, each TOP among them, which may be 0;
  *          out     these words.
- * Returns  0 where the claim passes, 6 where it is long, a reason from 1 to 5 where it fails; or -4, -1, -6, -8. */
+ * Returns  0 where the claim passes, 6 where it is long, a reason from 1 to 5 where it fails; or -4, -17, -1, -6, -8. */
 int64_t milebadger_reason(const milebadger_sheet *sheet, const uint32_t *words, size_t words_len, uint32_t *at,
                           size_t at_len, uint32_t *out, size_t out_len);
 
@@ -358,8 +416,8 @@ int64_t milebadger_reason(const milebadger_sheet *sheet, const uint32_t *words, 
  * a line, an answer one or more; every line ends in one byte 0x0A.
  *
  *     words                               line               what the call does
- *     MODULUS(m), UNKNOWNS(n)             open m n           opens the sheet: m from 2 to 65,535, n from 1 to 16, no
- *                                                            equations
+ *     MODULUS(m), UNKNOWNS(n)             open m n           opens the sheet: m from 2 to 4,294,967,295, n from 1
+ *                                                            to 16, no equations
  *     n times COEFFICIENT(a), RIGHT(b)    added k            adds an equation, 16 at most; k are then held. For minus a
  *                                                            MINUS_COEFFICIENT(a), for minus b MINUS_RIGHT(b)
  *     OWN_MODULUS(q), then such words     added k            adds an equation mod q, a divisor of m
@@ -371,25 +429,28 @@ int64_t milebadger_reason(const milebadger_sheet *sheet, const uint32_t *words, 
  *                                         fail               starting vector and its steps, 17 at most
  *     any of these, refused               refused r          nothing; r is a number of the table below
  *
- * (Each name with MILEBADGER_ in front.) Multipliers are any that refute the equations, as milebadger_answer says: check
- * them, do not compare them.
+ * (Each name with MILEBADGER_ in front, and a number of 2^28 or more with its TOP, which counts as part of its word.)
+ * Multipliers are any that refute the equations, as milebadger_answer says: check them, do not compare them.
  *
  * How many words a call takes, its first word alone decides, and not the kinds of those behind it: 2, n + 1, n + 2, 1, 1,
  * and 1 + h times n. MINUS_COEFFICIENT begins an equation as COEFFICIENT does. These two, OWN_MODULUS and HEAD take one
  * word while the sheet is not opened, and so does a HEAD above 17 at any time: the words behind it are then read as calls
  * of their own, so that one refused claim or equation can give a line for each of its words. A call that is cut short by
  * the end of the tape is refused with 1, and so is a first word of another kind, RIGHT and MINUS_RIGHT among them, which
- * takes one word. Bytes left over behind the last word give `refused 9` as the last line.
+ * takes one word. A first word that begins with its TOP picks the call by its own kind. A misplaced TOP counts as one of the
+ * words that a call takes, which is then refused with 17 rather than 1; as first word it is a call of one word, refused with
+ * 17, opened or not. Bytes left over behind the last word give `refused 9` as the last line.
  *
  *     refused  1  wrong shape, or an ANSWER with a number other than 0   6  an entry is not below m
- *              2  m is not 2..65,535                                     7  no equation to strike
+ *              2  m is below 2                                           7  no equation to strike
  *              3  n is not 1..16                                         9  1 to 3 bytes left over
  *              4  not opened                                            15  q is below 2 or does not divide m
  *              5  there are 16 equations                                16  a place beyond the equations held
+ *                                                                       17  a misplaced TOP
  *
  * Asks     tape_len at most 65,536? If not, -10.
  * Needs    out_len at least the length of all lines together. MILEBADGER_LINES_ROOM(tape_len) is enough for every tape.
- *          Where there are few answers, so are MILEBADGER_LONGEST_ANSWER bytes for each ANSWER, 14 for each other call
+ *          Where there are few answers, so are MILEBADGER_LONGEST_ANSWER bytes for each ANSWER, 19 for each other call
  *          and 10 for bytes left over.
  * Writes   the lines.
  * Returns  how many bytes the lines are, which may be 0; or -10, -8. */
@@ -405,7 +466,7 @@ int64_t milebadger_gcd(uint32_t a, uint32_t b, uint32_t *out, size_t out_len);
 
 /* One congruence a·t = b mod m. Any a and b will do: they are brought to their residues. So minus 1 is m - 1.
  *
- * Asks     m from 2 to 65,535? If not, -2.
+ * Asks     m at least 2? If not, -2.
  * Needs    out_len at least 2 where there is a solution.
  * Writes   out[0]  the least solution t;
  *          out[1]  the spacing: the solutions are t, t + spacing, t + 2·spacing, .. below m.
@@ -432,14 +493,16 @@ int64_t milebadger_solve(uint32_t m, uint32_t n, const uint32_t *lines, size_t l
                          size_t out_len);
 
 /* A safe: locks in rows and columns, each at a value from 0 to m - 1. Turning a lock by t adds t mod m to each lock in
- * its row and its column, to itself once. `values` holds the locks row after row, a word each: MILEBADGER_ENTRY(value).
+ * its row and its column, to itself once. `values` holds the locks row after row, a word each: MILEBADGER_ENTRY(value), with
+ * its TOP where it is 2^28 or more.
  *
- * Asks     m from 2 to 65,535? If not, -2.  rows and columns at least 1, rows * columns at most 16? If not, -3.
- *          values_len equal to rows * columns, all words of kind 6? If not, -1.  All values below m? If not, -6.
- * Needs    out_len at least rows * columns where there are turns. MILEBADGER_MOST_LOCKS is enough for every safe.
+ * Asks     m at least 2? If not, -2.  rows and columns at least 1, rows * columns at most 16? If not, -3.  Each TOP in its
+ *          place? If not, -17.  rows * columns words, all of kind 6? If not, -1.  All values below m? If not, -6.
+ * Needs    out_len at least the length of the turns, where there are any: rows * columns, and one for each TOP.
+ *          MILEBADGER_LONGEST_TURNS is enough for every safe, and MILEBADGER_MOST_LOCKS for m up to 2^28.
  * Writes   a turn for each lock, row after row, as the same words: of all turns from 0 to m - 1 that bring every lock to
  *          0 the first in dictionary order.
- * Returns  how many words it wrote, which is rows * columns; 0 where no turns bring every lock to 0; or -2, -3, -1, -6,
+ * Returns  how many words it wrote, each TOP among them; 0 where no turns bring every lock to 0; or -2, -3, -17, -1, -6,
  *          -8. */
 int64_t milebadger_safe(uint32_t m, uint32_t rows, uint32_t columns, const uint32_t *values, size_t values_len,
                         uint32_t *out, size_t out_len);

@@ -3,7 +3,7 @@
 #![allow(dead_code)]
 
 use crate::exercises::{self, chance, pick};
-use crate::face::{untouched, LONGEST_BLOCK};
+use crate::face::{untouched, LONGEST_WORDS};
 use crate::grammar;
 use crate::ledger::{self, Call, Ledger, Reason, Said, Solved};
 use crate::random::Random;
@@ -98,9 +98,23 @@ fn wrong_reply(act: &Act, reply: &Reply, said: &Said, before: &Ledger) -> Option
     (*reply != good).then(|| format!("{reply:x?} is not {good:x?}"))
 }
 
-/// Why an accepted answer is wrong: its block, its length, or a buffer word past it.
+/// Why an answer is wrong: its block, its length, or a buffer word past it. Where not all vectors can be tried, how long the buffer must
+/// be is known from the answer of milebadger_solve, and where there is a solution the block too.
 fn wrong_answer(solved: &Solved, outcome: Outcome, old: &[u32], buffer: &[u32], before: &Ledger) -> Option<String> {
     let Ledger::Opened(system) = before else { unreachable!("question 4") };
+    if *solved == Solved::Unknown {
+        let known = shown::solved(system);
+        let short = old.len() < ledger::block_room(system, known.as_ref());
+        let expected = known.map(|answer| ledger::claim(&ledger::vectors_of(&answer)));
+        match (outcome, expected) {
+            (Outcome::Refused(8), _) if short && buffer == old => return None,
+            (Outcome::Wrote(length), Some(block)) if !short && buffer[..length] != block => {
+                return Some(format!("{buffer:x?} where milebadger_solve says {block:x?}"))
+            }
+            (Outcome::Wrote(_), _) if !short => {}
+            _ => return Some(format!("{outcome:?} for a buffer of {} words", old.len())),
+        }
+    }
     match outcome {
         Outcome::Wrote(length) if 0 < length && length <= old.len() => {
             if buffer[length..] != old[length..] {
@@ -108,7 +122,6 @@ fn wrong_answer(solved: &Solved, outcome: Outcome, old: &[u32], buffer: &[u32], 
             }
             ledger::wrong_block(system, &buffer[..length])
         }
-        Outcome::Refused(8) if *solved == Solved::Unknown && old.len() < LONGEST_BLOCK && buffer == old => None,
         _ => Some(format!("{outcome:?} where {solved:?} is the answer")),
     }
 }
@@ -176,14 +189,14 @@ pub type Tally = BTreeSet<(&'static str, u32)>;
 /// "Questions, in order, and the number when the answer is no": every refusal that a direct call can give.
 pub fn all_refusals() -> Tally {
     let refusals: [(&str, &[u32]); 8] = [
-        ("open", &[1, 2, 3]),
-        ("add", &[4, 1, 15, 5]),
+        ("open", &[17, 1, 2, 3]),
+        ("add", &[4, 17, 1, 15, 5]),
         ("add text", &[4, 11, 12, 13, 5]),
         ("strike", &[4, 7, 16]),
         ("answer", &[4, 8]),
-        ("mark", &[4, 1, 6]),
+        ("mark", &[4, 17, 1, 6]),
         ("class", &[4, 14, 8]),
-        ("reason", &[4, 1, 6, 8]),
+        ("reason", &[4, 17, 1, 6, 8]),
     ];
     refusals.iter().flat_map(|(name, numbers)| numbers.iter().map(|&number| (*name, number))).collect()
 }
@@ -264,7 +277,7 @@ pub fn last(acts: &[Act]) -> Outcome {
 /// The numbers of the block that an answer wrote.
 pub fn answered(reply: &Reply) -> Vec<u32> {
     let Outcome::Wrote(length) = reply.outcome else { panic!("{:?}", reply.outcome) };
-    reply.buffer[..length].iter().map(|&word| ledger::number(word)).collect()
+    ledger::joined(&reply.buffer[..length]).iter().map(|word| word.number).collect()
 }
 
 /// A sheet for which all vectors can be tried, with some equations.
@@ -299,19 +312,36 @@ pub fn random_unsolvable(random: &mut Random) -> System {
     }
 }
 
+/// Moduli above 65,535: around 2^16 and 2^28, primes, the largest power of 2, one with many divisors, and the largest.
+pub const WIDE: [u32; 12] = [
+    65_536,
+    65_537,
+    (1 << 28) - 1,
+    1 << 28,
+    (1 << 28) + 1,
+    (1 << 28) + 2,
+    1 << 31,
+    3_234_846_615,
+    4_026_531_840,
+    4_294_967_291,
+    4_294_967_294,
+    u32::MAX,
+];
+
 /// A sheet that has too many vectors to try, in most cases. Where its right sides are made to fit, it has a solution. Half of the
 /// sheets are written with residues, the others with minus signs and numbers of any size; in half of them some equations have a
 /// modulus of their own.
 pub fn full_size_system(random: &mut Random, fits: bool) -> System {
-    let m = pick(random, &[2, 3, 4, 12, 60, 30_030, 32_768, 65_521, 65_535]);
+    let wide = pick(random, &WIDE);
+    let m = pick(random, &[2, 3, 4, 12, 60, 30_030, 32_768, 65_521, 65_535, wide, wide, wide]);
     let (n, signed, mixed) = (pick(random, &[5, 8, 15, 16]), chance(random, 2), chance(random, 2));
     let solution: Vec<u32> = (0..n).map(|_| random.below(m as u64) as u32).collect();
     let mut system = System::empty(m, n);
     for _ in 0..random.below(17) {
         let q = if mixed && chance(random, 2) { exercises::divisor(random, m) } else { m };
         let mut equation: Vec<u32> = (0..n).map(|_| if chance(random, 2) { 0 } else { random.below(q as u64) as u32 }).collect();
-        let right: u64 = equation.iter().zip(&solution).map(|(&a, &x)| a as u64 * x as u64).sum();
-        equation.push(if fits { (right % q as u64) as u32 } else { random.below(q as u64) as u32 });
+        let right: u128 = equation.iter().zip(&solution).map(|(&a, &x)| a as u128 * x as u128).sum();
+        equation.push(if fits { (right % q as u128) as u32 } else { random.below(q as u64) as u32 });
         let number = |x: &u32| if signed { exercises::written(random, q, *x) } else { *x as i64 };
         system.add(q, equation.iter().map(number).collect());
     }
@@ -383,10 +413,10 @@ fn places_length(random: &mut Random) -> usize {
 fn shown_length(random: &mut Random, system: &System, words: &[u32]) -> usize {
     let claimed = Ledger::Opened(system.clone()).run(&Call::Mark(words.to_vec()));
     let formed = !matches!(claimed, Said::Refused(_));
-    let exact = formed.then(|| ledger::reason_length(system, words)).flatten().unwrap_or(16);
+    let exact = formed.then(|| ledger::reason_room(system, words)).flatten().unwrap_or(16 * ledger::counted(system.m));
     match random.below(6) {
         0 => exact.saturating_sub(1),
-        1 => random.below(20) as usize,
+        1 => random.below(36) as usize,
         2 => exact + 1 + random.below(4) as usize,
         _ => exact,
     }
@@ -394,10 +424,10 @@ fn shown_length(random: &mut Random, system: &System, words: &[u32]) -> usize {
 
 /// Exactly as long as the block, one word shorter, somewhat longer, or any length.
 fn buffer_length(random: &mut Random, system: &System) -> usize {
-    let exact = ledger::block_length(system).unwrap_or(LONGEST_BLOCK);
+    let exact = ledger::block_length(system).unwrap_or(LONGEST_WORDS);
     match random.below(6) {
         0 => exact - 1,
-        1 => random.below(LONGEST_BLOCK as u64 + 3) as usize,
+        1 => random.below(LONGEST_WORDS as u64 + 3) as usize,
         2 => exact + 1 + random.below(4) as usize,
         _ => exact,
     }

@@ -11,10 +11,10 @@ mod shown;
 mod spelling;
 
 use acts::{add, add_own, all_refusals, answer, answered, entering, expect, full_size_system, last, mark, open, outcomes};
-use acts::{random_act, random_system, Tally};
+use acts::{random_act, random_system, Tally, WIDE};
 use exercises::{chance, pick};
-use face::LONGEST_BLOCK;
-use ledger::{Call, Ledger};
+use face::{LONGEST_BLOCK, LONGEST_WORDS};
+use ledger::{Call, Ledger, Word};
 use random::Random;
 use reference::{Line, System};
 use sheet::{Act, Desk, Outcome};
@@ -42,26 +42,31 @@ fn random_acts(random: &mut Random, count: usize) -> Vec<Act> {
 #[test]
 fn random_lists_of_calls_do_what_the_paper_says_and_every_call_meets_its_refusals() {
     let mut random = Random::new();
-    let (mut tally, mut signs, mut own) = (Tally::new(), 0, 0);
+    let (mut tally, mut signs, mut own, mut wide) = (Tally::new(), 0, 0, 0);
     for _ in 0..10_000 {
         let count = 1 + random.below(60) as usize;
         let acts = random_acts(&mut random, count);
         let added = acts.iter().filter_map(|act| if let Act::Add(words) = act { Some(words) } else { None });
-        signs += added.clone().flatten().filter(|&&word| ledger::whole(word) < 0).count();
-        own += added.flatten().filter(|&&word| ledger::kind(word) == ledger::OWN_MODULUS).count();
+        let added: Vec<Word> = added.flat_map(|words| ledger::joined(words)).collect();
+        signs += added.iter().filter(|&&word| ledger::whole(word) < 0).count();
+        own += added.iter().filter(|word| word.kind == ledger::OWN_MODULUS).count();
+        wide += added.iter().filter(|word| word.number > ledger::LARGEST_ALONE).count();
         expect(&acts, random.seed, &mut tally);
     }
     assert!(signs > 10_000 && own > 10_000, "{signs} minus signs, {own} equations with a modulus of their own");
+    assert!(wide > 10_000, "{wide} numbers of 2^28 or more");
     assert_eq!(tally, all_refusals(), "refusals seen, and refusals to be seen");
 }
 
-/// In each place of these words, each kind that is not among the allowed ones is refused with 1, and those are accepted.
+/// In each place of these words, each kind that is not among the allowed ones is refused with 1, or with 17 where it is 13 and does not
+/// count with the next word; and those are accepted.
 fn expect_kinds(words: &[u32], act: impl Fn(&[u32]) -> Act, allowed: &[Vec<u32>]) {
     for place in 0..words.len() {
         for kind in 0..16 {
             let mut words = words.to_vec();
             words[place] = ledger::word(kind, ledger::number(words[place]));
-            let refused = last(&[open(5, 2), act(&words)]) == Outcome::Refused(1);
+            let outcome = last(&[open(5, 2), act(&words)]);
+            let refused = outcome == Outcome::Refused(1) || outcome == Outcome::Refused(17) && kind == ledger::TOP;
             assert_eq!(refused, !allowed[place].contains(&kind), "{words:x?}");
         }
     }
@@ -124,7 +129,8 @@ fn misshapen_claims_and_equations_are_refused_with_1() {
         assert_eq!(last(&[open(5, 2), Act::Add(words.clone())]), Outcome::Refused(1), "{words:x?}");
     }
     expect_kinds(&[a, a, b], |words| Act::Add(words.to_vec()), &[vec![3, 10], vec![3, 10], vec![4, 11]]);
-    expect_kinds(&[own, a, a, b], |words| Act::Add(words.to_vec()), &[vec![12], vec![3, 10], vec![3, 10], vec![4, 11]]);
+    // in front, 5 of kind 13 makes of the coefficient behind it a larger one
+    expect_kinds(&[own, a, a, b], |words| Act::Add(words.to_vec()), &[vec![12, 13], vec![3, 10], vec![3, 10], vec![4, 11]]);
     expect_kinds(&[head(1), entry(1), entry(1)], |words| Act::Mark(words.to_vec()), &[vec![5], vec![6], vec![6]]);
     let (m, n) = (word(ledger::MODULUS, 5), word(ledger::UNKNOWNS, 2));
     for words in [vec![], vec![m], vec![n, m], vec![m, n, n], vec![m, m], vec![n, n]] {
@@ -133,13 +139,20 @@ fn misshapen_claims_and_equations_are_refused_with_1() {
 }
 
 #[test]
-fn numbers_are_compared_with_all_their_28_bits() {
-    for number in [5, 6, 65_536, 65_537, 1 << 24, (1 << 27) + 1, (1 << 28) - 1] {
+fn numbers_are_compared_with_all_their_32_bits() {
+    for number in [5, 6, 65_536, 65_537, 1 << 24, (1 << 27) + 1, (1 << 28) - 1, 1 << 28, (1 << 28) + 1, (1 << 31) + 1, u32::MAX] {
         assert_eq!(last(&[open(5, 1), mark(&[vec![number]])]), Outcome::Refused(6), "{number}");
         assert_eq!(last(&[open(5, 1), mark(&[vec![0], vec![number]])]), Outcome::Refused(6), "{number}");
     }
-    for number in [0, 1, 65_536, 65_538, 1 << 24, (1 << 27) + 2, (1 << 28) - 1] {
+    for number in [0, 1] {
         assert_eq!(last(&[open(number, 1)]), Outcome::Refused(2), "{number}");
+    }
+    for number in [2, 65_536, 65_538, 1 << 24, (1 << 27) + 2, (1 << 28) - 1, 1 << 28, (1 << 28) + 1, 15 << 28, u32::MAX] {
+        assert_eq!(last(&[open(number, 1)]), Outcome::Holds(0), "{number}");
+        // an entry is below the modulus or not
+        let marks = [mark(&[vec![number - 1]]), mark(&[vec![number]]), mark(&[vec![0], vec![number.saturating_add(1)]])];
+        let expected = [Outcome::Fail, Outcome::Refused(6), Outcome::Refused(6)];
+        assert_eq!(outcomes(&[&[open(number, 1)], &marks[..]].concat())[1..], expected, "{number}");
     }
     for number in [0, 17, 32, 257, 65_537, (1 << 27) + 1, (1 << 28) - 1] {
         assert_eq!(last(&[open(5, number)]), Outcome::Refused(3), "{number}");
@@ -148,15 +161,15 @@ fn numbers_are_compared_with_all_their_28_bits() {
 }
 
 /// The starting vector that the sheet's answer has after an equation in one unknown mod m with the coefficient 1.
-fn start_of(m: u32, right: u32) -> Vec<u32> {
-    let acts = [open(m, 1), Act::Add(vec![ledger::word(ledger::COEFFICIENT, 1), right]), answer(2)];
+fn start_of(m: u32, right: Vec<u32>) -> Vec<u32> {
+    let acts = [open(m, 1), Act::Add([vec![ledger::word(ledger::COEFFICIENT, 1)], right].concat()), answer(3)];
     let numbers = answered(expect(&acts, 0, &mut Tally::new()).last().unwrap());
     assert_eq!(numbers[0], 1, "a vector alone");
     numbers[1..].to_vec()
 }
 
 #[test]
-fn numbers_of_equations_are_brought_to_their_residues_with_all_their_28_bits() {
+fn numbers_of_equations_are_brought_to_their_residues_with_all_their_32_bits() {
     // residues worked out by hand, of the number and of minus the number
     for (m, number, residue, of_minus) in [
         (65_535, 268_435_455, 4_095, 61_440),
@@ -176,9 +189,26 @@ fn numbers_of_equations_are_brought_to_their_residues_with_all_their_28_bits() {
         (2, 2, 0, 0),
         (2, (1 << 28) - 1, 1, 1),
         (2, 1 << 27, 0, 0),
+        (2, 1 << 28, 0, 0),
+        (2, (1 << 28) + 1, 1, 1),
+        // 2^16 is 1 mod 65,535, 15 mod 65,521, 0 mod 65,536 and -1 mod 65,537
+        (65_535, 1 << 28, 4_096, 61_439),
+        (65_535, u32::MAX, 0, 0),
+        (65_521, u32::MAX, 224, 65_297),
+        (65_536, u32::MAX, 65_535, 1),
+        (65_537, u32::MAX, 0, 0),
+        (65_537, 1 << 28, 61_441, 4_096),
+        (268_435_455, 1 << 28, 1, 268_435_454),
+        (268_435_456, 1 << 28, 0, 0),
+        (268_435_457, 1 << 28, 268_435_456, 1),
+        (268_435_457, u32::MAX, 268_435_440, 17),
+        (4_294_967_291, u32::MAX, 4, 4_294_967_287),
+        (4_294_967_295, u32::MAX, 0, 0),
+        (4_294_967_295, 1, 1, 4_294_967_294),
+        (4_294_967_295, 1 << 28, 1 << 28, 4_026_531_839),
     ] {
-        assert_eq!(start_of(m, ledger::word(ledger::RIGHT, number)), [residue], "{number} mod {m}");
-        assert_eq!(start_of(m, ledger::word(ledger::MINUS_RIGHT, number)), [of_minus], "minus {number} mod {m}");
+        assert_eq!(start_of(m, ledger::written(ledger::RIGHT, number)), [residue], "{number} mod {m}");
+        assert_eq!(start_of(m, ledger::written(ledger::MINUS_RIGHT, number)), [of_minus], "minus {number} mod {m}");
     }
 }
 
@@ -197,7 +227,8 @@ fn an_equation_with_signs_and_large_numbers_leaves_the_same_sheet_as_one_with_re
     let mut signs = 0;
     for round in 0..300 {
         let (m, n) = if round % 3 == 0 {
-            (pick(&mut random, &[2, 12, 32_768, 65_521, 65_535]), pick(&mut random, &[1, 8, 16]))
+            let wide = pick(&mut random, &WIDE);
+            (pick(&mut random, &[2, 12, 32_768, 65_521, 65_535, wide, wide]), pick(&mut random, &[1, 8, 16]))
         } else {
             exercises::small_shape(&mut random)
         };
@@ -207,13 +238,13 @@ fn an_equation_with_signs_and_large_numbers_leaves_the_same_sheet_as_one_with_re
         }
         for held in 1..=1 + random.below(16) as usize {
             let [signed, plain] = in_two_writings(&mut random, m, n as usize);
-            signs += signed.iter().filter(|&&word| ledger::whole(word) < 0).count();
+            signs += ledger::joined(&signed).iter().filter(|&&word| ledger::whole(word) < 0).count();
             for (desk, words) in [(&mut one, signed), (&mut other, plain)] {
                 let reply = desk.act(&Act::Add(words.clone())).unwrap();
                 assert_eq!(reply.outcome, Outcome::Holds(held), "{words:x?} mod {m} (seed {})", random.seed);
             }
             assert_eq!(one.numbers(), other.numbers(), "mod {m} (seed {})", random.seed);
-            let answers = [&mut one, &mut other].map(|desk| desk.act(&answer(LONGEST_BLOCK)).unwrap());
+            let answers = [&mut one, &mut other].map(|desk| desk.act(&answer(LONGEST_WORDS)).unwrap());
             assert_eq!(answers[0], answers[1], "mod {m} (seed {})", random.seed);
         }
     }
@@ -258,7 +289,8 @@ fn a_full_sheet_refuses_with_5_after_shape_and_the_modulus_of_the_equation() {
 #[test]
 fn a_refused_opening_keeps_the_sheet_and_an_accepted_one_empties_it() {
     let mut random = Random::new();
-    let refused = [ledger::opening(1, 1), ledger::opening(65_536, 1), ledger::opening(2, 0), ledger::opening(2, 17), vec![]];
+    let loose = [ledger::opening(2, 1), vec![ledger::word(ledger::TOP, 1)]].concat();
+    let refused = [ledger::opening(1, 1), ledger::opening(0, 1), ledger::opening(2, 0), ledger::opening(2, 17), vec![], loose];
     for _ in 0..100 {
         let system = random_system(&mut random);
         let length = ledger::block_length(&system).unwrap();
@@ -281,15 +313,15 @@ fn strikes_bring_back_every_earlier_answer() {
     for _ in 0..150 {
         let (m, n) = exercises::small_shape(&mut random);
         let mut system = System::empty(m, n as usize);
-        let mut acts = vec![open(m, n), answer(LONGEST_BLOCK)];
+        let mut acts = vec![open(m, n), answer(LONGEST_WORDS)];
         for _ in 0..16 {
             let q = exercises::divisor(&mut random, m);
             let numbers = (0..=n).map(|_| exercises::any_whole(&mut random, q)).collect::<Vec<i64>>();
-            acts.extend([add_own(q, &numbers), answer(LONGEST_BLOCK)]);
+            acts.extend([add_own(q, &numbers), answer(LONGEST_WORDS)]);
             system.add(q, numbers);
         }
         for _ in 0..16 {
-            acts.extend([Act::Strike(0), answer(LONGEST_BLOCK)]);
+            acts.extend([Act::Strike(0), answer(LONGEST_WORDS)]);
         }
         acts.push(Act::Strike(0));
         let replies = expect(&acts, random.seed, &mut Tally::new());
@@ -329,10 +361,11 @@ fn full_size_sheets_are_answered_soundly_and_their_own_block_passes_or_is_long()
     let (mut solvable, mut unsolvable, mut long) = (0, 0, 0);
     for round in 0..120 {
         let system = full_size_system(&mut random, round % 3 != 0);
-        let acts = [entering(&system), vec![answer(LONGEST_BLOCK), Act::MarkBlock, mark(&[])]].concat();
+        let acts = [entering(&system), vec![answer(LONGEST_WORDS), Act::MarkBlock, mark(&[])]].concat();
         let replies = expect(&acts, random.seed, &mut Tally::new());
-        let length = answered(&replies[replies.len() - 3]).len();
-        let fitting = outcomes(&[entering(&system), vec![answer(length), answer(length - 1)]].concat());
+        let Outcome::Wrote(length) = replies[replies.len() - 3].outcome else { panic!("{replies:?}") };
+        let room = ledger::block_room(&system, shown::solved(&system).as_ref());
+        let fitting = outcomes(&[entering(&system), vec![answer(room), answer(room - 1)]].concat());
         let expected = [Outcome::Wrote(length), Outcome::Refused(8)];
         assert_eq!(fitting[fitting.len() - 2..], expected, "{system:?} (seed {})", random.seed);
         let outcomes: Vec<Outcome> = replies.iter().rev().take(2).map(|reply| reply.outcome).collect();

@@ -14,8 +14,8 @@ mod tape;
 
 use acts::{answer, answered, class, entered, full_size_system, random_solvable, random_unsolvable, replied};
 use exercises::{chance, pick, Flaw};
-use face::LONGEST_BLOCK;
-use ledger::{claim, word, ENTRY, HEAD, LARGEST, MULTIPLIER};
+use face::LONGEST_WORDS;
+use ledger::{claim, word, written, ENTRY, HEAD, LARGEST_ALONE, MULTIPLIER, TOP};
 use random::Random;
 use reference::{Answer, System};
 use sheet::{Act, Desk, Outcome, Reply};
@@ -35,7 +35,7 @@ struct Posed {
 impl Posed {
     fn new(system: System) -> Posed {
         let mut desk = entered(&system);
-        let block = answered(&desk.act(&answer(LONGEST_BLOCK)).unwrap());
+        let block = answered(&desk.act(&answer(LONGEST_WORDS)).unwrap());
         let mut vectors = block[1..].chunks(system.n).map(|v| v.to_vec());
         let answer = (block[0] > 0).then(|| Answer { start: vectors.next().unwrap(), steps: vectors.collect() });
         Posed { desk, system, answer }
@@ -80,10 +80,14 @@ enum Kind {
     Any,
     /// One that is refused, but none that is too long: in a class, what is too much is another claim.
     Flawed(Flaw),
+    /// In a head's place a word of kind 13 that is none in any place.
+    Top,
+    /// In a head's place one that is good, with the word of another kind of which it is a part.
+    Pair,
 }
 
 /// Those that stand anywhere in a class.
-const WHOLE: [Kind; 9] = [
+const WHOLE: [Kind; 12] = [
     Kind::Right,
     Kind::Changed,
     Kind::Short,
@@ -91,8 +95,11 @@ const WHOLE: [Kind; 9] = [
     Kind::Any,
     Kind::Flawed(Flaw::NotBelow),
     Kind::Flawed(Flaw::Misfit),
+    Kind::Flawed(Flaw::Top),
     Kind::Flawed(Flaw::LargeHead),
     Kind::Flawed(Flaw::Stray),
+    Kind::Top,
+    Kind::Pair,
 ];
 
 /// A claim that breaks off, which only the last one can.
@@ -125,6 +132,10 @@ fn handed_in(random: &mut Random, posed: &Posed, kind: Kind) -> Vec<u32> {
             vec![exercises::flawed(random, &posed.system, &vectors, flaw)[0]]
         }
         (Kind::Flawed(flaw), _) => exercises::flawed(random, &posed.system, &vectors, flaw),
+        (Kind::Top, _) => vec![exercises::bad_top(random)],
+        (Kind::Pair, _) => {
+            vec![exercises::top(random), word(pick(random, &[1, 3, 4, 6, 7, 10, 11, 12]), random.below(20) as u32)]
+        }
     }
 }
 
@@ -136,7 +147,8 @@ fn possible(posed: &Posed, kind: Kind) -> &'static [u8] {
         (Kind::NoSolution, Some(_)) => &[0],
         (Kind::Changed | Kind::Short | Kind::Any, _) => &[0, 1, 2],
         (Kind::Flawed(Flaw::NotBelow), _) => &[106],
-        (Kind::Flawed(_), _) => &[101],
+        (Kind::Flawed(Flaw::Top) | Kind::Top, _) => &[117],
+        (Kind::Flawed(_) | Kind::Pair, _) => &[101],
     }
 }
 
@@ -178,7 +190,7 @@ fn random_classes_get_the_bytes_of_single_marks_in_their_order() {
             match kind {
                 Kind::Flawed(Flaw::Stray) => drop(strays.insert(ledger::kind(words[0]))),
                 Kind::Flawed(Flaw::Misfit) => {
-                    misfits.extend(words[1..].iter().map(|&word| ledger::kind(word)).filter(|&kind| kind != ENTRY))
+                    misfits.extend(ledger::joined(&words[1..]).iter().map(|word| word.kind).filter(|&kind| kind != ENTRY))
                 }
                 _ => {}
             }
@@ -198,18 +210,22 @@ fn random_classes_get_the_bytes_of_single_marks_in_their_order() {
         (Kind::Flawed(Flaw::Misfit), 101),
         (Kind::Flawed(Flaw::LargeHead), 101),
         (Kind::Flawed(Flaw::Stray), 101),
+        (Kind::Flawed(Flaw::Top), 117),
+        (Kind::Top, 117),
+        (Kind::Pair, 101),
         (CUT, 101),
     ] {
         assert!(seen.get(&(kind, byte)).is_some_and(|&times| times > 150), "{kind:?} with {byte} among {seen:?}");
     }
     assert!(sheets.len() == 4 && sheets.values().all(|&times| times > 20), "small, and with a solution: {sheets:?}");
-    assert!(strays.len() == 15 && misfits.len() == 15, "{strays:?}, {misfits:?}");
+    assert!(strays.len() == 14 && misfits.len() == 14, "{strays:?}, {misfits:?}");
 }
 
 #[test]
 fn classes_marked_by_hand() {
     let head = |h: u32| vec![word(HEAD, h)];
-    let entries = |numbers: &[u32]| numbers.iter().map(|&x| word(ENTRY, x)).collect::<Vec<u32>>();
+    let entries = |numbers: &[u32]| numbers.iter().flat_map(|&x| written(ENTRY, x)).collect::<Vec<u32>>();
+    let top = |number: u32| vec![word(TOP, number)];
     let of = |h: u32, numbers: &[u32]| [head(h), entries(numbers)].concat();
     let (right, short) = (of(2, &[0, 0, 2, 3]), of(2, &[0, 0, 0, 2]));
     let long = of(3, &[0, 0, 2, 1, 0, 2]);
@@ -227,7 +243,7 @@ fn classes_marked_by_hand() {
         (vec![right.clone(), short, head(0), of(1, &[0, 4]), misfit(1, &[0]), right.clone()], vec![1, 0, 0, 106, 101, 1]),
         // a head above 17 takes one word, and so does each entry behind it
         (vec![head(18), right.clone()], vec![101, 1]),
-        (vec![head(LARGEST as u32), entries(&[0, 0]), head(0)], vec![101, 101, 101, 0]),
+        (vec![head(LARGEST_ALONE), entries(&[0, 0]), head(0)], vec![101, 101, 101, 0]),
         (vec![entries(&[0, 0, 0, 0]), right.clone(), entries(&[0])], vec![101, 101, 101, 101, 1, 101]),
         // 17 is none that is too large
         (vec![of(17, &[0; 34]), head(0)], vec![0, 0]),
@@ -243,13 +259,36 @@ fn classes_marked_by_hand() {
         (vec![head(1), head(18), right.clone()], vec![101, 101, 101, 101, 101]),
         // the shape is asked for before the numbers
         (vec![misfit(1, &[4])], vec![101]),
-        (vec![of(1, &[0, 4]), of(1, &[LARGEST as u32, 0])], vec![106, 106]),
+        (vec![of(1, &[0, 4]), of(1, &[LARGEST_ALONE, 0])], vec![106, 106]),
         (vec![of(2, &[0, 0, 2, 4]), of(2, &[0, 0, 2, 3])], vec![106, 1]),
+        // entries of two words are one entry: they are not below the modulus, and the claims behind them stay what they are
+        (vec![of(1, &[1 << 28, 0]), right.clone(), of(1, &[0, u32::MAX]), right.clone()], vec![106, 1, 106, 1]),
+        (vec![of(2, &[0, 0, (1 << 28) + 2, 3]), head(0)], vec![106, 0]),
+        (vec![right.clone(), of(2, &[0, 0, 1 << 28])], vec![1, 101]),
+        // in a head's place: a word of kind 13 with 0 or above 15, or before a head or another of its kind, or behind all
+        (vec![top(0), right.clone(), top(16), right.clone(), top(LARGEST_ALONE)], vec![117, 1, 117, 1, 117]),
+        (vec![top(1), right.clone(), top(15), head(0), top(1), top(1), head(18)], vec![117, 1, 117, 0, 117, 117, 101]),
+        (vec![right.clone(), top(1)], vec![1, 117]),
+        (vec![top(1), vec![word(2, 1)], top(1), vec![word(9, 0)], top(1), vec![word(14, 0)]], vec![117, 101, 117, 101, 117, 101]),
+        // a good one there is one claim with the word behind it; 13 13 6 is a bad one, and then a good one
+        (vec![entries(&[1 << 28]), right.clone(), entries(&[u32::MAX]), head(0)], vec![101, 1, 101, 0]),
+        (vec![top(1), entries(&[1 << 28]), right.clone()], vec![117, 101, 1]),
+        // among the entries it is one of the claim's words, and the last claim may end with it
+        (vec![head(1), top(0), entries(&[0]), right.clone()], vec![117, 1]),
+        (vec![head(1), entries(&[0]), top(1), right.clone()], vec![117, 1]),
+        (vec![head(1), entries(&[0, 0]), top(1), right.clone()], vec![0, 117, 1]),
+        (vec![head(1), top(1), right.clone()], vec![117, 101, 101, 101, 101]),
+        (vec![right.clone(), of(1, &[0]), top(1)], vec![1, 117]),
+        (vec![right.clone(), head(17), top(16)], vec![1, 117]),
+        // before shape and numbers
+        (vec![head(1), entries(&[4]), top(16), right.clone()], vec![117, 1]),
+        (vec![head(1), top(16), head(18), right.clone()], vec![117, 1]),
     ];
     // a stray word is one word, also of the kinds that begin longer calls on a tape
     for kind in (0..16).filter(|&kind| kind != HEAD) {
-        classes.push((vec![vec![word(kind, 1)], right.clone()], vec![101, 1]));
-        classes.push((vec![right.clone(), vec![word(kind, 2); 2]], vec![1, 101, 101]));
+        let byte = if kind == TOP { 117 } else { 101 };
+        classes.push((vec![vec![word(kind, 1)], right.clone()], vec![byte, 1]));
+        classes.push((vec![right.clone(), vec![word(kind, 2); 2]], vec![1, byte, byte]));
     }
     let mut random = Random::new();
     let mut posed = Posed::new(System::plain(4, 2, vec![vec![1, 2, 0]]));
@@ -352,7 +391,7 @@ fn a_claim_has_its_byte_wherever_it_stands() {
         moved += (0..claims.len()).filter(|&i| bytes[i] != expected[i]).count();
         bytes.iter().for_each(|&byte| *seen.entry(byte).or_insert(0) += 1);
     }
-    assert!(moved > 300 && seen.len() == 5 && seen.values().all(|&times| times > 100), "{moved} moved, {seen:?}");
+    assert!(moved > 300 && seen.len() == 6 && seen.values().all(|&times| times > 100), "{moved} moved, {seen:?}");
 }
 
 /// A word of kind 6 with the number 0.
@@ -381,6 +420,9 @@ fn a_class_is_cut_as_on_the_tape() {
         for (_, words) in handed_in.iter_mut().filter(|(kind, _)| *kind == Kind::Flawed(Flaw::Stray)) {
             *words = vec![word(pick(&mut random, &tape::MEANINGLESS), 1)];
         }
+        for (_, words) in handed_in.iter_mut().filter(|(kind, _)| *kind == Kind::Pair) {
+            words[1] = word(pick(&mut random, &[4, 6, 7, 11]), 1);
+        }
         let words = words_of(&handed_in);
         let system = &posed.system;
         let equations = system.equations.iter().flat_map(|line| ledger::line_words(system.m, line));
@@ -393,16 +435,17 @@ fn a_class_is_cut_as_on_the_tape() {
         assert_eq!(bytes_of(&marks.join("\n")), bytes, "{handed_in:x?} (seed {})", random.seed);
         bytes.iter().for_each(|&byte| *seen.entry(byte).or_insert(0) += 1);
     }
-    assert!(seen.len() == 5 && seen.values().all(|&times| times > 100), "{seen:?}");
+    assert!(seen.len() == 6 && seen.values().all(|&times| times > 100), "{seen:?}");
 }
 
 /// 16 dense equations in 16 unknowns whose solutions take 16 steps: each is multiplied by a divisor of m, and the right sides fit.
 fn steps_everywhere(random: &mut Random) -> System {
-    let (m, factor) = pick(random, &[(65_520, 12), (32_768, 256), (30_030, 30)]);
+    let (m, factor) = pick(random, &[(65_520, 12), (32_768, 256), (30_030, 30), (4_026_531_840, 240), (u32::MAX as u64, 255)]);
     let solution: Vec<u64> = (0..16).map(|_| random.below(m)).collect();
     let equation = |random: &mut Random| {
         let mut numbers: Vec<u64> = (0..16).map(|_| random.below(m) * factor % m).collect();
-        numbers.push(numbers.iter().zip(&solution).map(|(a, x)| a * x).sum::<u64>() % m);
+        let right: u128 = numbers.iter().zip(&solution).map(|(&a, &x)| a as u128 * x as u128).sum();
+        numbers.push((right % m as u128) as u64);
         numbers.iter().map(|&number| number as i64).collect()
     };
     System::plain(m as u32, 16, (0..16).map(|_| equation(random)).collect())

@@ -1,8 +1,9 @@
 //! Random words for the calls on a sheet: openings, equations and claims, most of them good, the others spoiled in one place. The
-//! numbers of equations have signs, and are residues or any that a word can have; some equations have a modulus of their own.
+//! numbers of equations have signs, and are residues or any that a word can have, with one of kind 13 in front from 2^28 on; some
+//! equations have a modulus of their own.
 #![allow(dead_code)]
 
-use crate::ledger::{self, Solved, LARGEST};
+use crate::ledger::{self, Solved, LARGEST, LARGEST_ALONE};
 use crate::random::Random;
 use crate::reference::{self, Answer, System};
 
@@ -30,9 +31,12 @@ pub fn small_shape(random: &mut Random) -> (u32, u32) {
 pub fn opening(random: &mut Random) -> Vec<u32> {
     let (m, n) = small_shape(random);
     let words = match random.below(16) {
-        0 => ledger::opening(pick(random, &[0, 1, 65_536, 65_537, 65_538, 1 << 27, (1 << 28) - 1]), n),
+        0 => ledger::opening(pick(random, &[0, 1]), n),
         1 => ledger::opening(m, pick(random, &[0, 17, 18, 257, 65_537, 1 << 27, (1 << 28) - 1])),
-        2 => ledger::opening(pick(random, &[2, 65_535]), pick(random, &[1, 16])),
+        2 => ledger::opening(
+            pick(random, &[2, 65_535, 65_536, LARGEST_ALONE, 1 << 28, (1 << 28) + 1, u32::MAX]),
+            pick(random, &[1, 16]),
+        ),
         _ => ledger::opening(m, n),
     };
     sometimes_spoiled(random, words, m)
@@ -45,10 +49,10 @@ pub fn any_whole(random: &mut Random, m: u32) -> i64 {
     let number = match random.below(6) {
         0 => random.below(4) as i64,
         1 => random.below(m as u64) as i64,
-        2 => m + beside,
+        2 => (m + beside).min(LARGEST),
         3 => m * random.below((LARGEST / m) as u64) as i64 + beside,
-        4 => LARGEST - random.below(3) as i64,
-        _ => random.below(1 << 28) as i64,
+        4 => pick(random, &[LARGEST_ALONE as i64 + 2, LARGEST]) - random.below(3) as i64,
+        _ => random.any_length() as i64,
     };
     if chance(random, 2) {
         -number
@@ -63,21 +67,27 @@ pub fn written(random: &mut Random, m: u32, residue: u32) -> i64 {
     let (m, residue) = (m as i64, residue as i64);
     let (least, greatest) = (-((LARGEST + residue) / m), (LARGEST - residue) / m);
     let any = least + random.below((greatest - least + 1) as u64) as i64;
-    residue + pick(random, &[0, -1, 1, least, greatest, any]) * m
+    residue + pick(random, &[0, -1, greatest.min(1), least, greatest, any]) * m
 }
 
 /// The words with some zeros written as minus 0.
 fn with_minus_zeros(random: &mut Random, mut words: Vec<u32>) -> Vec<u32> {
-    let (right, coefficients) = words.split_last_mut().expect("an equation has a right side");
-    coefficients.iter_mut().for_each(|a| *a = if ledger::number(*a) == 0 && chance(random, 4) { MINUS_ZERO } else { *a });
-    if ledger::number(*right) == 0 && chance(random, 4) {
-        *right = MINUS_RIGHT_ZERO;
+    // 0, and not the low 28 bits of a larger number
+    let zeros: Vec<bool> = (0..words.len()).map(|i| ledger::number(words[i]) == 0 && (i == 0 || !is_top(words[i - 1]))).collect();
+    for (place, zero) in words.iter_mut().zip(zeros) {
+        if zero && chance(random, 4) {
+            *place = if ledger::kind(*place) == ledger::RIGHT { MINUS_RIGHT_ZERO } else { MINUS_ZERO };
+        }
     }
     words
 }
 
 const MINUS_ZERO: u32 = ledger::MINUS_COEFFICIENT << 28;
 const MINUS_RIGHT_ZERO: u32 = ledger::MINUS_RIGHT << 28;
+
+fn is_top(place: u32) -> bool {
+    ledger::kind(place) == ledger::TOP
+}
 
 /// A divisor of m from 2 on, m as often as others.
 pub fn divisor(random: &mut Random, m: u32) -> u32 {
@@ -92,9 +102,10 @@ pub fn divisor(random: &mut Random, m: u32) -> u32 {
 
 /// A modulus for one line of a sheet mod m, or now and then a number that is none, in most cases.
 fn own_modulus(random: &mut Random, m: u32) -> u32 {
-    let any = random.below(1 << 28) as u32;
+    let any = random.any_length();
+    let more = |more: u32| m.saturating_add(more);
     match random.below(6) {
-        0 => pick(random, &[0, 1, m - 1, m + 1, 2 * m, 65_536 + m, (1 << 27) + m, LARGEST as u32, any]),
+        0 => pick(random, &[0, 1, m - 1, more(1), more(m), more(65_536), more(1 << 27), more(1 << 28), LARGEST as u32, any]),
         _ => divisor(random, m),
     }
 }
@@ -114,8 +125,8 @@ pub fn equation(random: &mut Random, system: &System) -> Vec<u32> {
     if !system.equations.is_empty() && chance(random, 2) {
         let earlier = &system.equations[random.below(system.equations.len() as u64) as usize];
         let least = if chance(random, 2) { 1 } else { q / reference::divisor_by_halving(q, earlier.q) };
-        let factor = random.below(m as u64) as i64 * least as i64;
-        let residues: Vec<u32> = earlier.numbers.iter().map(|&x| reference::residue(q, x * factor)).collect();
+        let factor = (random.below(m as u64) as i128 * least as i128) % q as i128;
+        let residues: Vec<u32> = earlier.numbers.iter().map(|&x| (x as i128 * factor).rem_euclid(q as i128) as u32).collect();
         numbers = residues.iter().map(|&x| if signed { written(random, q, x) } else { x as i64 }).collect();
     }
     let mut words = ledger::equation(&numbers);
@@ -123,14 +134,14 @@ pub fn equation(random: &mut Random, system: &System) -> Vec<u32> {
         words = with_minus_zeros(random, words);
     }
     if let Some(q) = own {
-        words.insert(0, ledger::word(ledger::OWN_MODULUS, q));
+        words.splice(0..0, ledger::written(ledger::OWN_MODULUS, q));
     }
     sometimes_spoiled(random, words, m)
 }
 
 /// v + t·w mod m
 pub fn plus(m: u32, v: &[u32], t: u64, w: &[u32]) -> Vec<u32> {
-    v.iter().zip(w).map(|(&x, &y)| ((x as u64 + t * y as u64) % m as u64) as u32).collect()
+    v.iter().zip(w).map(|(&x, &y)| ((x as u128 + t as u128 * y as u128) % m as u128) as u32).collect()
 }
 
 /// A residue that has an inverse mod m.
@@ -229,7 +240,7 @@ pub fn class(random: &mut Random, system: &System) -> Vec<u32> {
     let mut words = vec![];
     for _ in 0..count {
         match random.below(6) {
-            0 => words.push(stray(random)),
+            0 => words.extend(stray_words(random)),
             _ if many => words.push(ledger::word(ledger::HEAD, pick(random, &[0, 18]))),
             _ => words.extend(claim(random, system)),
         }
@@ -240,10 +251,30 @@ pub fn class(random: &mut Random, system: &System) -> Vec<u32> {
     words
 }
 
-/// A word of another kind than a head's.
+/// A word of another kind than a head's, and than 13.
 pub fn stray(random: &mut Random) -> u32 {
-    let kind = (ledger::HEAD + 1 + random.below(15) as u32) % 16;
+    let kind = pick(random, &[0, 1, 2, 3, 4, 6, 7, 8, 9, 10, 11, 12, 14, 15]);
     ledger::word(kind, pick(random, &[0, 1, 2, 17, 18, (1 << 28) - 1]))
+}
+
+/// A word of kind 13 that is none in whatever place: its number is 0, or above 15.
+pub fn bad_top(random: &mut Random) -> u32 {
+    ledger::word(ledger::TOP, pick(random, &[0, 16, 17, 31, 32, 256, 1 << 27, LARGEST_ALONE]))
+}
+
+/// A word of kind 13 that is good before a word of the right kind.
+pub fn top(random: &mut Random) -> u32 {
+    ledger::word(ledger::TOP, pick(random, &[1, 1, 2, 7, 8, 14, 15]))
+}
+
+/// A word of another kind than a head's, which may be one of kind 13, or a good one with the word that it counts with.
+pub fn stray_words(random: &mut Random) -> Vec<u32> {
+    let kind = pick(random, &[1, 3, 4, 6, 7, 10, 11, 12]);
+    match random.below(4) {
+        0 => vec![bad_top(random)],
+        1 => vec![top(random), ledger::word(kind, pick(random, &[0, 1, 17, LARGEST_ALONE]))],
+        _ => vec![stray(random)],
+    }
 }
 
 /// What a claim is refused for.
@@ -251,8 +282,12 @@ pub fn stray(random: &mut Random) -> u32 {
 pub enum Flaw {
     /// An entry is m or more.
     NotBelow,
-    /// A word among the entries is of another kind.
+    /// A word among the entries is of another kind, other than 13.
     Misfit,
+    /// In the place of an entry is a word of kind 13 that is none in any place.
+    Top,
+    /// Between the words or behind all is a word of kind 13, none in any place or just none there.
+    Loose,
     /// A head above 17.
     LargeHead,
     /// A word of another kind where a head should stand.
@@ -267,25 +302,41 @@ pub enum Flaw {
 /// is one of 18, and has the words for them.
 pub fn flawed(random: &mut Random, system: &System, vectors: &[Vec<u32>], flaw: Flaw) -> Vec<u32> {
     let m = system.m;
-    let mut words = ledger::claim(vectors);
+    // the places of each word, of which the first is the head
+    let mut words: Vec<Vec<u32>> = [vec![ledger::word(ledger::HEAD, vectors.len() as u32)]]
+        .into_iter()
+        .chain(vectors.iter().flatten().map(|&x| ledger::written(ledger::ENTRY, x)))
+        .collect();
     let place = 1 + random.below(words.len() as u64 - 1) as usize;
     match flaw {
         Flaw::NotBelow => {
-            words[place] = ledger::word(ledger::ENTRY, pick(random, &[m, m + 1, 65_536 + m, 1 << 27, LARGEST as u32]));
+            let more = |more: u32| m.saturating_add(more);
+            let number = pick(random, &[m, more(1), more(65_536), more(1 << 27), more(1 << 28), LARGEST as u32]);
+            words[place] = ledger::written(ledger::ENTRY, number);
         }
         Flaw::Misfit => {
-            let other = (ledger::ENTRY + 1 + random.below(15) as u32) % 16;
-            words[place] = ledger::word(other, pick(random, &[0, 1, m, LARGEST as u32]));
+            let other = pick(random, &[0, 1, 2, 3, 4, 5, 7, 8, 9, 10, 11, 12, 14, 15]);
+            words[place] = vec![ledger::word(other, pick(random, &[0, 1, m % (1 << 28), LARGEST_ALONE]))];
         }
+        Flaw::Top => words[place] = vec![bad_top(random)],
+        Flaw::Loose => match random.below(4) {
+            0 => words.insert(place, vec![bad_top(random)]),
+            1 => words.insert(place - 1, vec![top(random), top(random)]),
+            2 => words.push(vec![top(random)]),
+            _ => {
+                let kind = pick(random, &[0, 2, 5, 8, 9, 13, 14, 15]);
+                words[place] = vec![top(random), ledger::word(kind, 0)];
+            }
+        },
         Flaw::LargeHead => {
-            words = ledger::claim(&vec![vec![0; system.n]; 18]);
-            words[0] = ledger::word(ledger::HEAD, pick(random, &[18, 18, 19, 32, 256, 65_537, 1 << 27, LARGEST as u32]));
+            words = vec![vec![ledger::word(ledger::ENTRY, 0)]; 1 + 18 * system.n];
+            words[0] = vec![ledger::word(ledger::HEAD, pick(random, &[18, 18, 19, 32, 256, 65_537, 1 << 27, LARGEST_ALONE]))];
         }
-        Flaw::Stray => words[0] = stray(random),
+        Flaw::Stray => words[0] = vec![stray(random)],
         Flaw::Cut => words.truncate(place),
-        Flaw::Long => words.push(ledger::word(ledger::ENTRY, 0)),
+        Flaw::Long => words.push(vec![ledger::word(ledger::ENTRY, 0)]),
     }
-    words
+    words.concat()
 }
 
 /// The words as they are, or now and then spoiled.
@@ -297,27 +348,33 @@ fn sometimes_spoiled(random: &mut Random, words: Vec<u32>, m: u32) -> Vec<u32> {
     }
 }
 
-/// Words with one thing changed: the length, a kind, a number, or the order; or with a modulus between them.
+/// Words with one thing changed: the length, a kind, a number, or the order; or with a modulus between them, or a word of kind 13, which
+/// may be good, and then makes a number larger, or stand in the place of another.
 pub fn spoiled(random: &mut Random, mut words: Vec<u32>, m: u32) -> Vec<u32> {
     let count = words.len() as u64;
     let place = random.below(count.max(1)) as usize;
     if words.is_empty() {
         return vec![random.bits() as u32];
     }
-    match random.below(11) {
+    let low = m % (1 << 28);
+    match random.below(15) {
         0 => words.truncate(place),
         1 => words.push(words[place]),
         2 => words.insert(0, words[place]),
         3 => words[place] = ledger::word(random.below(16) as u32, ledger::number(words[place])),
-        4 => words[place] = ledger::word(ledger::kind(words[place]), m),
-        5 => words[place] = ledger::word(ledger::kind(words[place]), m - 1),
+        4 => words[place] = ledger::word(ledger::kind(words[place]), low),
+        5 => words[place] = ledger::word(ledger::kind(words[place]), (m - 1) % (1 << 28)),
         6 => words[place] = (words[place] & 0xF000_FFFF) + pick(random, &[1 << 16, 1 << 20, 1 << 27]),
         7 => words[place] = random.bits() as u32,
         8 => {
             let minus = pick(random, &[ledger::MINUS_COEFFICIENT, ledger::MINUS_RIGHT]);
             words[place] = ledger::word(minus, ledger::number(words[place]));
         }
-        9 => words.insert(place, ledger::word(ledger::OWN_MODULUS, pick(random, &[0, 1, 2, m]))),
+        9 => words.insert(place, ledger::word(ledger::OWN_MODULUS, pick(random, &[0, 1, 2, low]))),
+        10 => words.insert(place, top(random)),
+        11 => words.insert(place, bad_top(random)),
+        12 => words[place] = if chance(random, 2) { top(random) } else { bad_top(random) },
+        13 => words.push(top(random)),
         _ => words.swap(0, place),
     }
     words

@@ -74,10 +74,10 @@ pub fn congruence(a: i32, b: i32, m: u32, len: usize) -> Reply {
 }
 
 /// Calls with numbers to read, which have a guard on both sides too and must be the same afterwards.
-fn reading(numbers: &[u32], call: impl FnOnce(*const u32, usize) -> Reply) -> Reply {
-    let mut lent = vec![GUARD; GUARDS];
+fn reading(guard: u32, numbers: &[u32], call: impl FnOnce(*const u32, usize) -> Reply) -> Reply {
+    let mut lent = vec![guard; GUARDS];
     lent.extend(numbers);
-    lent.extend([GUARD; GUARDS]);
+    lent.extend([guard; GUARDS]);
     let before = lent.clone();
     let reply = call(lent[GUARDS..].as_ptr(), numbers.len());
     assert_eq!(lent, before, "what was to be read was written");
@@ -85,17 +85,21 @@ fn reading(numbers: &[u32], call: impl FnOnce(*const u32, usize) -> Reply) -> Re
 }
 
 pub fn solve(m: u32, n: u32, lines: &[u32], len: usize) -> Reply {
-    reading(lines, |lines, count| lend(len, |out, len| unsafe { milebadger_solve(m, n, lines, count, out, len) }))
+    reading(GUARD, lines, |lines, count| lend(len, |out, len| unsafe { milebadger_solve(m, n, lines, count, out, len) }))
 }
 
+/// Beside the values there are entries, with which a word of kind 13 that is the last one would be good.
 pub fn safe(m: u32, rows: u32, columns: u32, values: &[u32], len: usize) -> Reply {
-    reading(values, |values, count| {
+    reading(6 << 28, values, |values, count| {
         lend(len, |out, len| unsafe { milebadger_safe(m, rows, columns, values, count, out, len) })
     })
 }
 
 /// The longest answer block: a head, a start and 16 steps of 16 numbers.
 pub const LONGEST_BLOCK: usize = 1 + 17 * 16;
+
+/// The same in words, of which each number but the head may take two.
+pub const LONGEST_WORDS: usize = 1 + 2 * 17 * 16;
 
 /// What the tape's call gave back: its result, and the lent bytes after it.
 #[derive(Clone, Debug, PartialEq)]

@@ -51,16 +51,16 @@ impl Tree {
 
     /// Its value mod m where the unknowns have these values.
     pub fn value(&self, m: u32, vector: &[u32]) -> i64 {
-        let of = |tree: &Tree| tree.value(m, vector);
-        let whole = match self {
-            Tree::Number(number) => *number as i64,
-            Tree::Unknown(j) => vector[j - 1] as i64,
+        let of = |tree: &Tree| tree.value(m, vector) as i128;
+        let whole: i128 = match self {
+            Tree::Number(number) => *number as i128,
+            Tree::Unknown(j) => vector[j - 1] as i128,
             Tree::Minus(tree) => -of(tree),
             Tree::Sum(left, right) => of(left) + of(right),
             Tree::Difference(left, right) => of(left) - of(right),
             Tree::Product(left, right) => of(left) * of(right),
         };
-        whole.rem_euclid(m as i64)
+        whole.rem_euclid(m as i128) as i64
     }
 }
 

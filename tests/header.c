@@ -12,6 +12,8 @@ static const uint32_t words[] = {
     MILEBADGER_RIGHT(4u), MILEBADGER_HEAD(MILEBADGER_LARGEST_HEAD), MILEBADGER_ENTRY(sizeof(char)),
     MILEBADGER_STRIKE, MILEBADGER_ANSWER, MILEBADGER_WORD(7, 7), MILEBADGER_MINUS_COEFFICIENT(NUMBER),
     MILEBADGER_MINUS_RIGHT(0), MILEBADGER_OWN_MODULUS(NUMBER), MILEBADGER_STRIKE_AT(NUMBER),
+    MILEBADGER_TOP(MILEBADGER_LARGEST_MODULUS), MILEBADGER_MODULUS(MILEBADGER_LOW(MILEBADGER_LARGEST_MODULUS)),
+    MILEBADGER_TOP(4294967291), MILEBADGER_ENTRY(MILEBADGER_LOW(4294967291)),
 };
 
 /* Minus 1 has a kind of its own, and keeps its number; so has the modulus of an equation, and the place of a strike, which has 0 for
@@ -20,6 +22,11 @@ typedef char kinds[MILEBADGER_MINUS_COEFFICIENT(1) == 0xA0000001 && MILEBADGER_M
 typedef char moduli[MILEBADGER_OWN_MODULUS(3) == 0xC0000003 && MILEBADGER_NUMBER(MILEBADGER_OWN_MODULUS(3)) == 3 ? 1 : -1];
 typedef char places[MILEBADGER_STRIKE_AT(2) == 0x80000002 && MILEBADGER_STRIKE_AT(0) == MILEBADGER_STRIKE ? 1 : -1];
 typedef char numbers[MILEBADGER_NUMBER(MILEBADGER_MINUS_RIGHT(MILEBADGER_LARGEST_NUMBER)) == 268435455 ? 1 : -1];
+
+/* The two words of a number that one does not hold. */
+typedef char tops[MILEBADGER_TOP(268435456) == 0xD0000001 && MILEBADGER_TOP(MILEBADGER_LARGEST_MODULUS) == 0xD000000F ? 1 : -1];
+typedef char lows[MILEBADGER_LOW(268435457) == 1 && MILEBADGER_LOW(MILEBADGER_LARGEST_MODULUS) == 0x0FFFFFFF ? 1 : -1];
+typedef char moduli_of_32_bits[MILEBADGER_LARGEST_MODULUS == UINT32_MAX ? 1 : -1];
 
 static uint8_t lines[MILEBADGER_LINES_ROOM(sizeof words)];
 
@@ -33,14 +40,23 @@ typedef char passes[MILEBADGER_MARK(1) == MILEBADGER_PASS && MILEBADGER_MARK(0) 
 typedef char superfluous[MILEBADGER_MARK(2) == MILEBADGER_LONG ? 1 : -1];
 typedef char shape[MILEBADGER_MARK(101) == MILEBADGER_REFUSED_SHAPE ? 1 : -1];
 typedef char number[MILEBADGER_MARK(106) == MILEBADGER_REFUSED_NUMBER ? 1 : -1];
+typedef char misplaced[MILEBADGER_MARK(117) == MILEBADGER_REFUSED_TOP ? 1 : -1];
 
-#if MILEBADGER_VERSION < 30000 || MILEBADGER_REFUSED_PLACE != -16 || MILEBADGER_LONG != 2 || MILEBADGER_REASON_SUPERFLUOUS != 6
+#if MILEBADGER_VERSION < 40000 || MILEBADGER_REFUSED_TOP != -17 || MILEBADGER_LONG != 2 || MILEBADGER_REASON_SUPERFLUOUS != 6
 #error "names that the preprocessor cannot read"
 #endif
 
-/* A vector for every unknown, and a multiplier for every equation, are shown whole. */
-typedef char shown[MILEBADGER_LONGEST_REASON >= MILEBADGER_MOST_UNKNOWNS ? 1 : -1];
-typedef char multiplied[MILEBADGER_LONGEST_REASON >= MILEBADGER_MOST_EQUATIONS ? 1 : -1];
+#if MILEBADGER_LARGEST_MODULUS != 4294967295
+#error "a limit that the preprocessor cannot read"
+#endif
+
+/* A vector for every unknown, and a multiplier for every equation, are shown whole, with two words for each; and so is an answer, with
+ * one for its head, and a turn for every lock. */
+typedef char shown[MILEBADGER_LONGEST_REASON >= 2 * MILEBADGER_MOST_UNKNOWNS ? 1 : -1];
+typedef char multiplied[MILEBADGER_LONGEST_REASON >= 2 * MILEBADGER_MOST_EQUATIONS ? 1 : -1];
+typedef char blocks[MILEBADGER_LONGEST_BLOCK == 1 + MILEBADGER_LARGEST_HEAD * MILEBADGER_MOST_UNKNOWNS ? 1 : -1];
+typedef char answers[MILEBADGER_LONGEST_BLOCK_WORDS == 1 + 2 * (MILEBADGER_LONGEST_BLOCK - 1) ? 1 : -1];
+typedef char turns[MILEBADGER_LONGEST_TURNS == 2 * MILEBADGER_MOST_LOCKS ? 1 : -1];
 
 /* Words of numbers that are known only here: bytes, one after the other, and two that have a sign, which picks a word's kind. */
 int64_t run_later(const uint8_t *bytes, int i, int64_t l);
@@ -56,6 +72,22 @@ int64_t run_later(const uint8_t *bytes, int i, int64_t l)
     for (size_t j = 0; j < sizeof words / sizeof *words; j++)
         word ^= words[j];
     return milebadger_tape(bytes, MILEBADGER_NUMBER(word) % MILEBADGER_LONGEST_TAPE, lines, sizeof lines);
+}
+
+/* Words of any number, written behind each other and read again: one that is known only here, and the largest. */
+uint32_t wide_later(uint32_t x);
+
+uint32_t wide_later(uint32_t x)
+{
+    uint32_t out[6] = {0}, number = 0, sum = 0;
+    size_t count = milebadger_write(out, MILEBADGER_ENTRY(0), x), at = 0;
+    count += milebadger_write(out + count, MILEBADGER_MINUS_COEFFICIENT(0), x & 1);
+    count += milebadger_write(out + count, MILEBADGER_MODULUS(0), MILEBADGER_LARGEST_MODULUS);
+    while (at < count) {
+        at += milebadger_read(out + at, &number);
+        sum += number;
+    }
+    return sum ^ MILEBADGER_TOP(x) ^ MILEBADGER_ENTRY(MILEBADGER_LOW(x));
 }
 
 /* A fresh sheet, a copy of it, and every call on them. */
@@ -144,6 +176,7 @@ int kinds_of_results(int64_t result)
     case MILEBADGER_REFUSED_CLAIMS:
     case MILEBADGER_REFUSED_OWN_MODULUS:
     case MILEBADGER_REFUSED_PLACE:
+    case MILEBADGER_REFUSED_TOP:
         return 1;
     default:
         return 2;

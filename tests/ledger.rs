@@ -4,9 +4,10 @@
 
 use crate::grammar::Typed;
 use crate::reference::{self, Answer, Line, System};
+pub use crate::reference::{counted, front, joined, written, Word, TOP};
 use std::collections::BTreeSet;
 
-/// "A word has 32 bits: the top 4 are its kind, the low 28 its number."
+/// "A word has 32 bits: the top 4 are its kind, the low 28 its number." Larger numbers are `written`.
 pub fn word(kind: u32, number: u32) -> u32 {
     assert!(kind < 16 && number < 1 << 28);
     (kind << 28) + number
@@ -38,25 +39,31 @@ pub const MINUS_RIGHT: u32 = 11;
 /// "A word of kind 12 with q precedes the equation."
 pub const OWN_MODULUS: u32 = 12;
 
-/// "Any number of 28 bits is allowed": the largest.
-pub const LARGEST: i64 = (1 << 28) - 1;
+/// The largest number of a word without one of kind 13 in front: of 28 bits.
+pub const LARGEST_ALONE: u32 = (1 << 28) - 1;
+
+/// "Tape signs of S-3 apply to the 32-bit number": the largest that an equation's word has with one of kind 13 in front.
+pub const LARGEST: i64 = u32::MAX as i64;
 
 /// "Open: kinds 1, 2."
 pub fn opening(m: u32, n: u32) -> Vec<u32> {
-    vec![word(MODULUS, m), word(UNKNOWNS, n)]
+    [written(MODULUS, m), vec![word(UNKNOWNS, n)]].concat()
 }
 
 /// "Equation: n of kind 3, one of kind 4": these numbers, those below 0 with kinds 10 and 11.
 pub fn equation(numbers: &[i64]) -> Vec<u32> {
-    let signed = |plus: u32, minus: u32, number: i64| word(if number < 0 { minus } else { plus }, number.unsigned_abs() as u32);
+    let signed = |plus: u32, minus: u32, number: i64| {
+        assert!(number.abs() <= LARGEST);
+        written(if number < 0 { minus } else { plus }, number.unsigned_abs() as u32)
+    };
     let (right, coefficients) = numbers.split_last().expect("an equation has a right side");
     let coefficients = coefficients.iter().map(|&a| signed(COEFFICIENT, MINUS_COEFFICIENT, a));
-    coefficients.chain([signed(RIGHT, MINUS_RIGHT, *right)]).collect()
+    coefficients.chain([signed(RIGHT, MINUS_RIGHT, *right)]).flatten().collect()
 }
 
 /// The same with a modulus of its own in front.
 pub fn own_equation(q: u32, numbers: &[i64]) -> Vec<u32> {
-    [vec![word(OWN_MODULUS, q)], equation(numbers)].concat()
+    [written(OWN_MODULUS, q), equation(numbers)].concat()
 }
 
 /// The words of a line on a sheet mod m: the modulus stands there where it is another than m.
@@ -69,17 +76,18 @@ pub fn line_words(m: u32, line: &Line) -> Vec<u32> {
 }
 
 /// An equation's own modulus, or that of the sheet, "without it"; and the words behind it.
-pub fn parted(m: u32, words: &[u32]) -> (u32, &[u32]) {
-    match words {
-        [first, behind @ ..] if kind(*first) == OWN_MODULUS => (number(*first), behind),
+pub fn parted(m: u32, memory: &[u32]) -> (u32, Vec<Word>) {
+    let words = joined(memory);
+    match words[..] {
+        [first, ref behind @ ..] if first.kind == OWN_MODULUS => (first.number, behind.to_vec()),
         _ => (m, words),
     }
 }
 
 /// The whole number that a word of an equation stands for.
-pub fn whole(word: u32) -> i64 {
-    let size = number(word) as i64;
-    if [MINUS_COEFFICIENT, MINUS_RIGHT].contains(&kind(word)) {
+pub fn whole(word: Word) -> i64 {
+    let size = word.number as i64;
+    if [MINUS_COEFFICIENT, MINUS_RIGHT].contains(&word.kind) {
         -size
     } else {
         size
@@ -88,21 +96,25 @@ pub fn whole(word: u32) -> i64 {
 
 /// "Claim: a head, then head number times n entries": these vectors, or none of them.
 pub fn claim(vectors: &[Vec<u32>]) -> Vec<u32> {
-    [word(HEAD, vectors.len() as u32)].into_iter().chain(vectors.iter().flatten().map(|&x| word(ENTRY, x))).collect()
+    [word(HEAD, vectors.len() as u32)].into_iter().chain(vectors.iter().flatten().flat_map(|&x| written(ENTRY, x))).collect()
+}
+
+/// The first of the words in this memory.
+pub fn first(memory: &[u32]) -> Word {
+    joined(&memory[..front(memory, 1)])[0]
 }
 
 /// "They come as words one after another .. Each claim's length is taken as on the tape; a word of another kind where a head should
-/// stand is a claim of one word": the words of each claim, of which the last may be cut short.
-pub fn claims(n: usize, words: &[u32]) -> Vec<Vec<u32>> {
-    let (mut claims, mut missing): (Vec<Vec<u32>>, usize) = (vec![], 0);
-    for &word in words {
-        if missing > 0 {
-            claims.last_mut().expect("a head").push(word);
-            missing -= 1;
-        } else {
-            claims.push(vec![word]);
-            missing = if kind(word) == HEAD && number(word) <= 17 { number(word) as usize * n } else { 0 };
-        }
+/// stand is a claim of one word": the memory of each claim, of which the last may be cut short. A word of kind 13 "counts as part" of
+/// the next one "wherever a .. claim's words are counted".
+pub fn claims(n: usize, memory: &[u32]) -> Vec<Vec<u32>> {
+    let (mut claims, mut rest) = (vec![], memory);
+    while !rest.is_empty() {
+        let head = first(rest);
+        let entries = if head.kind == HEAD && head.number <= 17 { head.number as usize * n } else { 0 };
+        let (claim, behind) = rest.split_at(front(rest, 1 + entries));
+        claims.push(claim.to_vec());
+        rest = behind;
     }
     claims
 }
@@ -112,21 +124,26 @@ pub fn vectors_of(answer: &Answer) -> Vec<Vec<u32>> {
     [&answer.start].into_iter().chain(&answer.steps).cloned().collect()
 }
 
-fn kinds(words: &[u32]) -> Vec<u32> {
-    words.iter().map(|&w| kind(w)).collect()
+fn kinds(words: &[Word]) -> Vec<u32> {
+    words.iter().map(|word| word.kind).collect()
 }
 
-fn numbers(words: &[u32]) -> Vec<u32> {
-    words.iter().map(|&w| number(w)).collect()
+fn numbers(words: &[Word]) -> Vec<u32> {
+    words.iter().map(|word| word.number).collect()
 }
 
-fn is_opening(words: &[u32]) -> bool {
-    kinds(words) == [MODULUS, UNKNOWNS]
+/// No "kind 13 word with number 0 or above 15, or not right before a word of kinds 1, 3, 4, 6, 7, 10, 11 or 12".
+fn is_joined(memory: &[u32]) -> bool {
+    joined(memory).iter().all(|word| word.kind != TOP)
+}
+
+fn is_opening(memory: &[u32]) -> bool {
+    kinds(&joined(memory)) == [MODULUS, UNKNOWNS]
 }
 
 /// Kinds 10 and 11 "may stand wherever 3 and 4 may"; kind 12 just in front, and once.
-fn is_equation(n: usize, words: &[u32]) -> bool {
-    match kinds(parted(0, words).1).split_last() {
+fn is_equation(n: usize, memory: &[u32]) -> bool {
+    match kinds(&parted(0, memory).1).split_last() {
         Some((right, coefficients)) => {
             coefficients.len() == n
                 && coefficients.iter().all(|kind| [COEFFICIENT, MINUS_COEFFICIENT].contains(kind))
@@ -142,16 +159,17 @@ pub fn is_own_modulus(m: u32, q: u32) -> bool {
 }
 
 /// "0 claims no solution and describes no vector, 1..17 is a starting vector with its steps."
-fn is_claim(n: usize, words: &[u32]) -> bool {
+fn is_claim(n: usize, memory: &[u32]) -> bool {
+    let words = joined(memory);
     match words.first() {
-        Some(&head) if kind(head) == HEAD && number(head) <= 17 => kinds(&words[1..]) == vec![ENTRY; number(head) as usize * n],
+        Some(head) if head.kind == HEAD && head.number <= 17 => kinds(&words[1..]) == vec![ENTRY; head.number as usize * n],
         _ => false,
     }
 }
 
-/// A call with its arguments other than the sheet. A typed equation has what its text says, if it says anything; a strike has its
-/// place, which is its word's number on tape; an answer has the length of its buffer, or its word on tape; a class has the number of
-/// its bytes too, and a reason the lengths of its `at` and its buffer.
+/// A call with its arguments other than the sheet; of its words, the memory that they lie in. A typed equation has what its text says, if
+/// it says anything; a strike has its place, which is its word's number on tape; an answer has the length of its buffer, or its word on
+/// tape; a class has the number of its bytes too, and a reason the lengths of its `at` and its buffer.
 #[derive(Clone, Debug, PartialEq)]
 pub enum Call {
     Open(Vec<u32>),
@@ -163,7 +181,7 @@ pub enum Call {
     Class(Vec<u32>, usize),
     Reason(Vec<u32>, usize, usize),
     AnswerFromTape(u32),
-    Meaningless(u32),
+    Meaningless(Vec<u32>),
 }
 
 impl Call {
@@ -222,13 +240,18 @@ impl Reason {
         }
     }
 
-    /// "It writes words of kinds 6 and 7 as the answer does", and for a long claim "no words": how many.
-    pub fn words(self, system: &System) -> usize {
+    /// "It writes words of kinds 6 and 7 as the answer does", and for a long claim "no words": how many numbers they have.
+    pub fn shown(self, system: &System) -> usize {
         match self {
             Reason::Solvable | Reason::Misses => system.n,
             Reason::Unsolvable => system.equations.len(),
             Reason::Breaks { .. } | Reason::Changes { .. } | Reason::Superfluous { .. } => 0,
         }
+    }
+
+    /// How long a buffer question 8 asks for.
+    pub fn room(self, system: &System) -> usize {
+        self.shown(system) * counted(system.m)
     }
 }
 
@@ -310,14 +333,15 @@ impl Ledger {
         }
         match (call, &mut *self) {
             (Call::Open(words), _) => {
-                let (m, n) = (number(words[0]), number(words[1]) as usize);
+                let words = joined(words);
+                let (m, n) = (words[0].number, words[1].number as usize);
                 *self = Ledger::Opened(System::empty(m, n));
                 Said::Opened { m, n }
             }
             (_, Ledger::Unopened) => unreachable!("question 4"),
             (Call::Add(words), Ledger::Opened(system)) => {
                 let (q, behind) = parted(system.m, words);
-                system.add(q, behind.iter().map(|&w| whole(w)).collect());
+                system.add(q, behind.iter().map(|&word| whole(word)).collect());
                 Said::Added(system.equations.len())
             }
             (Call::AddText(typed), Ledger::Opened(system)) => {
@@ -351,16 +375,16 @@ impl Ledger {
     /// enough.
     fn refusal(&self, call: &Call) -> Option<u32> {
         let questions: &[u32] = match call {
-            Call::Open(_) => &[1, 2, 3],
-            Call::Add(_) => &[4, 1, 15, 5],
+            Call::Open(_) => &[17, 1, 2, 3],
+            Call::Add(_) => &[4, 17, 1, 15, 5],
             Call::AddText(_) => &[4, 11, 12, 13, 5],
             Call::Strike(_) => &[4, 7, 16],
             Call::Answer(_) => &[4, 8],
             Call::AnswerFromTape(_) => &[4, 1],
-            Call::Mark(_) => &[4, 1, 6],
+            Call::Mark(_) => &[4, 17, 1, 6],
             Call::Class(..) => &[4, 14, 8],
-            Call::Reason(..) => &[4, 1, 6, 8],
-            Call::Meaningless(_) => &[1],
+            Call::Reason(..) => &[4, 17, 1, 6, 8],
+            Call::Meaningless(_) => &[17, 1],
         };
         questions.iter().copied().find(|&question| !self.yes(question, call))
     }
@@ -372,9 +396,11 @@ impl Ledger {
             Ledger::Unopened => unreachable!("question 4 comes first"),
         };
         match (question, call) {
+            (17, Call::Open(words) | Call::Add(words) | Call::Mark(words) | Call::Reason(words, ..)) => is_joined(words),
+            (17, Call::Meaningless(words)) => is_joined(words),
             (1, Call::Open(words)) => is_opening(words),
-            (2, Call::Open(words)) => (2..=65_535).contains(&number(words[0])),
-            (3, Call::Open(words)) => (1..=16).contains(&number(words[1])),
+            (2, Call::Open(words)) => reference::is_modulus(joined(words)[0].number),
+            (3, Call::Open(words)) => (1..=16).contains(&joined(words)[1].number),
             (4, _) => matches!(self, Ledger::Opened(_)),
             (1, Call::Add(words)) => is_equation(system().n, words),
             (15, Call::Add(words)) => is_own_modulus(system().m, parted(system().m, words).0),
@@ -387,10 +413,10 @@ impl Ledger {
             (16, Call::Strike(place)) => *place as usize <= system().equations.len(),
             (8, Call::Answer(length)) => block_length(system()).is_none_or(|block| block <= *length),
             (1, Call::Mark(words) | Call::Reason(words, ..)) => is_claim(system().n, words),
-            (6, Call::Mark(words) | Call::Reason(words, ..)) => words[1..].iter().all(|&w| number(w) < system().m),
+            (6, Call::Mark(words) | Call::Reason(words, ..)) => joined(words)[1..].iter().all(|word| word.number < system().m),
             (14, Call::Class(words, _)) => claims(system().n, words).len() <= 64,
             (8, Call::Class(words, bytes)) => claims(system().n, words).len() <= *bytes,
-            (8, Call::Reason(words, at, out)) => *at >= 3 && reason_length(system(), words).is_none_or(|count| count <= *out),
+            (8, Call::Reason(words, at, out)) => *at >= 3 && reason_room(system(), words).is_none_or(|room| room <= *out),
             (1, Call::Meaningless(_)) => false,
             _ => unreachable!("{call:?} has no question {question}"),
         }
@@ -408,12 +434,21 @@ pub fn solve(system: &System) -> Solved {
     }
 }
 
-/// How many words the answer block has, where the answer is known.
+/// How long a buffer question 8 asks for, where the answer is known.
 pub fn block_length(system: &System) -> Option<usize> {
     match solve(system) {
-        Solved::Vectors(answer) => Some(1 + (1 + answer.steps.len()) * system.n),
-        Solved::Nothing => Some(1 + system.equations.len()),
+        Solved::Vectors(answer) => Some(block_room(system, Some(&answer))),
+        Solved::Nothing => Some(block_room(system, None)),
         Solved::Unknown => None,
+    }
+}
+
+/// The same for this answer: the block's words as they are written, or a head, and for each equation a multiplier, "which counts two
+/// words when m is above 2^28".
+pub fn block_room(system: &System, answer: Option<&Answer>) -> usize {
+    match answer {
+        Some(answer) => claim(&vectors_of(answer)).len(),
+        None => 1 + system.equations.len() * counted(system.m),
     }
 }
 
@@ -447,8 +482,8 @@ pub fn others(vectors: &[Vec<u32>], step: usize) -> Vec<Vec<u32>> {
 }
 
 /// The vectors of a claim: a start and steps, or none.
-pub fn vectors_in(n: usize, words: &[u32]) -> Vec<Vec<u32>> {
-    numbers(&words[1..]).chunks(n).map(|v| v.to_vec()).collect()
+pub fn vectors_in(n: usize, memory: &[u32]) -> Vec<Vec<u32>> {
+    numbers(&joined(memory)[1..]).chunks(n).map(|v| v.to_vec()).collect()
 }
 
 /// "The tool gives the first of these that holds", by trying all vectors; for a right claim the first superfluous step, if there is one.
@@ -475,7 +510,7 @@ pub fn fault(system: &System, vectors: &[Vec<u32>]) -> Option<Reason> {
         return Some(Reason::Breaks { equation });
     }
     for step in 1..vectors.len() {
-        let behind: Vec<u32> = start.iter().zip(&vectors[step]).map(|(&x, &y)| x + y).collect();
+        let behind: Vec<u64> = start.iter().zip(&vectors[step]).map(|(&x, &y)| x as u64 + y as u64).collect();
         let changes = |equation: &usize| {
             let line = &system.equations[equation - 1];
             (line.left(&behind) - line.left(start)) % line.q as i128 != 0
@@ -487,18 +522,20 @@ pub fn fault(system: &System, vectors: &[Vec<u32>]) -> Option<Reason> {
     None
 }
 
-/// How many words the reason of a claim has, where it is known.
-pub fn reason_length(system: &System, words: &[u32]) -> Option<usize> {
+/// How long a buffer question 8 asks for, where the reason of a claim is known.
+pub fn reason_room(system: &System, memory: &[u32]) -> Option<usize> {
     let known = can_try(system.m, system.n);
-    known.then(|| reason(system, &vectors_in(system.n, words)).map_or(0, |reason| reason.words(system)))
+    known.then(|| reason(system, &vectors_in(system.n, memory)).map_or(0, |reason| reason.room(system)))
 }
 
 /// Why a block of words is not the answer to the equations, if it is not.
 pub fn wrong_block(system: &System, block: &[u32]) -> Option<String> {
-    let (head, behind) = (block[0], &block[1..]);
-    if number(head) == 0 {
-        let good = kind(head) == HEAD && behind.iter().all(|&w| kind(w) == MULTIPLIER) && system.refuted_by(&numbers(behind));
-        return (!good).then(|| format!("{block:x?} is no certificate for {system:?}"));
+    let words = joined(block);
+    let (head, behind) = (words[0], &words[1..]);
+    if head.number == 0 {
+        let multipliers = behind.iter().flat_map(|word| written(MULTIPLIER, word.number));
+        let good = block == [word(HEAD, 0)].into_iter().chain(multipliers).collect::<Vec<u32>>();
+        return (!good || !system.refuted_by(&numbers(behind))).then(|| format!("{block:x?} is no certificate for {system:?}"));
     }
     let vectors: Vec<Vec<u32>> = numbers(behind).chunks(system.n).map(|v| v.to_vec()).collect();
     if claim(&vectors) != block || vectors.iter().any(|v| v.len() != system.n) {

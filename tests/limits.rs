@@ -8,6 +8,7 @@ mod sheet;
 mod tape;
 
 use ledger::{equation, opening, word, Reason, ANSWER, ENTRY, HEAD};
+use reference::Safe;
 use sheet::{Act, Desk, Outcome, Sheet};
 
 const HEADER: &str = include_str!("../include/milebadger.h");
@@ -16,7 +17,7 @@ const HEADER: &str = include_str!("../include/milebadger.h");
 fn limit(name: &str) -> usize {
     let define = format!("#define MILEBADGER_{name} ");
     let rest = HEADER.lines().find_map(|line| line.strip_prefix(&define)).expect(name);
-    let number = rest.split(' ').next().unwrap();
+    let number = rest.split(' ').next().unwrap().trim_end_matches('u');
     match number.strip_prefix("0x") {
         Some(digits) => usize::from_str_radix(digits, 16).unwrap(),
         None => number.parse().unwrap(),
@@ -38,7 +39,7 @@ fn lines(words: &[u32]) -> String {
 #[test]
 fn the_archive_has_the_version_of_the_header() {
     assert_eq!(face::version() as usize, limit("VERSION"));
-    assert_eq!(face::version(), 30_000, "3.0.0");
+    assert_eq!(face::version(), 40_000, "4.0.0");
 }
 
 #[test]
@@ -54,9 +55,10 @@ fn a_sheet_goes_as_far_as_the_header_says() {
     let (m, n, k) = (limit("LARGEST_MODULUS") as u32, limit("MOST_UNKNOWNS"), limit("MOST_EQUATIONS"));
     let (mut desk, longest) = (Desk::fresh(), limit("LONGEST_BLOCK"));
     let mut outcome = |act: Act| desk.act(&act).unwrap().outcome;
-    assert_eq!(outcome(Act::Open(opening(m + 1, n as u32))), Outcome::Refused(2));
+    assert_eq!(m, u32::MAX);
     assert_eq!(outcome(Act::Open(opening(m, n as u32 + 1))), Outcome::Refused(3));
     assert_eq!(outcome(Act::Open(opening(m, n as u32))), Outcome::Holds(0));
+    // zeros and unit vectors, whose entries have one word each
     assert_eq!(outcome(Act::Answer(face::untouched(longest - 1))), Outcome::Refused(8));
     assert_eq!(outcome(Act::Answer(face::untouched(longest))), Outcome::Wrote(longest));
     assert_eq!(outcome(Act::MarkBlock), Outcome::Pass);
@@ -64,6 +66,27 @@ fn a_sheet_goes_as_far_as_the_header_says() {
         assert_eq!(outcome(Act::Add(equation(&vec![m as i64 - 1; n + 1]))), Outcome::Holds(held));
     }
     assert_eq!(outcome(Act::Add(equation(&vec![m as i64 - 1; n + 1]))), Outcome::Refused(5));
+}
+
+#[test]
+fn an_answer_and_a_claim_have_no_more_words_than_the_header_says() {
+    let longest = limit("LONGEST_BLOCK_WORDS");
+    assert_eq!(face::LONGEST_WORDS, longest);
+    // a claim of so many vectors whose entries all take two words
+    let (m, n) = (limit("LARGEST_MODULUS") as u32, limit("MOST_UNKNOWNS"));
+    assert_eq!(ledger::claim(&vec![vec![m - 1; n]; limit("LARGEST_HEAD")]).len(), longest);
+    // of the longest answer all entries but the zeros in front of a step's place do
+    let (mut desk, words) = (Desk::fresh(), long_answer());
+    let mut outcome = |act: Act| desk.act(&act).unwrap().outcome;
+    assert_eq!(outcome(Act::Open(words[0].clone())), Outcome::Holds(0));
+    for held in 1..=n {
+        assert_eq!(outcome(Act::Add(words[held].clone())), Outcome::Holds(held));
+    }
+    let written = longest - (0..n).sum::<usize>();
+    assert_eq!(outcome(Act::Answer(face::untouched(written - 1))), Outcome::Refused(8));
+    assert_eq!(outcome(Act::Answer(face::untouched(longest))), Outcome::Wrote(written));
+    // the first step leads to all others
+    assert_eq!(outcome(Act::MarkBlock), Outcome::Long);
 }
 
 #[test]
@@ -87,7 +110,7 @@ fn a_reason_shows_as_many_words_as_the_header_says() {
     ] {
         let mut desk = Desk::fresh();
         let mut outcome = |act: Act| desk.act(&act).unwrap().outcome;
-        assert_eq!(outcome(Act::Open(opening(2, n as u32))), Outcome::Holds(0));
+        assert_eq!(outcome(Act::Open(opening(limit("LARGEST_MODULUS") as u32, n as u32))), Outcome::Holds(0));
         for held in 1..=k {
             assert_eq!(outcome(Act::Add(equation(&[vec![0; n], vec![1]].concat()))), Outcome::Holds(held));
         }
@@ -121,15 +144,24 @@ fn the_header_has_the_reasons_in_the_order_of_the_paper() {
 
 #[test]
 fn numbers_of_an_equation_go_as_far_as_the_header_says_and_those_of_a_claim_up_to_the_modulus() {
-    let largest = limit("LARGEST_NUMBER") as i64;
+    let (alone, largest) = (limit("LARGEST_NUMBER") as i64, limit("LARGEST_MODULUS") as i64);
+    assert_eq!([alone, largest], [ledger::LARGEST_ALONE as i64, ledger::LARGEST]);
     let (mut desk, m) = (Desk::fresh(), limit("LARGEST_MODULUS") as u32);
     let mut outcome = |act: Act| desk.act(&act).unwrap().outcome;
     assert_eq!(outcome(Act::Open(opening(m, 2))), Outcome::Holds(0));
-    for (held, numbers) in [[largest; 3], [-largest; 3], [largest, -largest, 0], [0, largest, -largest]].iter().enumerate() {
+    let all = [
+        [largest; 3],
+        [-largest; 3],
+        [largest, -largest, 0],
+        [0, largest, -largest],
+        [alone; 3],
+        [-alone, alone + 1, -1 - alone],
+    ];
+    for (held, numbers) in all.iter().enumerate() {
         assert_eq!(outcome(Act::Add(equation(numbers))), Outcome::Holds(held + 1), "{numbers:?}");
     }
-    for (number, expected) in [(m - 1, Outcome::Fail), (m, Outcome::Refused(6)), (largest as u32, Outcome::Refused(6))] {
-        assert_eq!(outcome(Act::Mark(vec![word(HEAD, 1), word(ENTRY, 1), word(ENTRY, number)])), expected, "{number}");
+    for (number, expected) in [(alone as u32, Outcome::Fail), (m - 1, Outcome::Fail), (m, Outcome::Refused(6))] {
+        assert_eq!(outcome(Act::Mark(ledger::claim(&[vec![1, number]]))), expected, "{number}");
     }
 }
 
@@ -159,6 +191,7 @@ fn the_header_has_the_kinds_of_the_paper() {
     ] {
         assert_eq!(kind(name), number, "{name}");
     }
+    assert!(HEADER.contains("\n#define MILEBADGER_TOP(number) ((uint32_t)13 << 28 | (uint32_t)(number) >> 28)\n"));
 }
 
 #[test]
@@ -175,8 +208,10 @@ fn a_typed_equation_may_be_as_long_as_the_header_says() {
 #[test]
 fn moduli_unknowns_and_equations_go_as_far_as_the_header_says() {
     let (modulus, unknowns) = (limit("LARGEST_MODULUS") as u32, limit("MOST_UNKNOWNS") as u32);
-    assert_eq!(lines(&opening(modulus, unknowns)), format!("open {modulus} {unknowns}\n"));
-    assert_eq!(lines(&opening(modulus + 1, unknowns)), "refused 2\n");
+    let longest = lines(&opening(modulus, unknowns));
+    assert_eq!(longest, format!("open {modulus} {unknowns}\n"));
+    assert!(HEADER.contains(&format!("bytes for each ANSWER, {} for each other call", longest.len())));
+    assert_eq!(lines(&opening(1, unknowns)), "refused 2\n");
     assert_eq!(lines(&opening(modulus, unknowns + 1)), "refused 3\n");
 
     let equations = limit("MOST_EQUATIONS");
@@ -191,6 +226,15 @@ fn safes_and_blocks_are_as_large_as_the_header_says() {
     let values = vec![word(ENTRY, 0); locks + 1];
     assert_eq!(face::safe(2, 1, locks as u32, &values[..locks], locks).result, locks as i64);
     assert_eq!(face::safe(2, 1, locks as u32 + 1, &values, locks + 1).result, -3);
+    // mod this prime the turns of 4 rows and 4 columns are the only ones, and here each of them has two words
+    let (m, longest) = (4_294_967_291, limit("LONGEST_TURNS"));
+    let turns: Vec<u32> = (0..locks as u32).map(|i| m - 1 - 7 * i).collect();
+    let mut closed = Safe { m, rows: 4, columns: 4, values: vec![0; locks] };
+    let back: Vec<u32> = turns.iter().map(|t| m - t).collect();
+    closed.values = closed.after(&back);
+    let values: Vec<u32> = closed.values.iter().flat_map(|&value| ledger::written(ENTRY, value)).collect();
+    assert_eq!(face::safe(m, 4, 4, &values, longest).result, longest as i64);
+    assert_eq!(face::safe(m, 4, 4, &values, longest - 1).result, -8);
 
     let longest = limit("LONGEST_BLOCK");
     assert_eq!(face::solve(2, 16, &[], longest).result, longest as i64);
@@ -212,53 +256,35 @@ fn left_over_bytes_fill_the_room_of_a_tape_without_words() {
     assert_eq!(face::tape(&[0; 3], room(3)).result, room(3) as i64);
 }
 
-/// Equations mod 61,440 in 16 unknowns with nearly the longest answer: 16 steps, and four digits less than if each number in a
-/// step's place and behind it had five. Each line has an equation's coefficients; those behind its last one are 0.
-const COEFFICIENTS: [&str; 16] = [
-    "5",
-    "14",
-    "113",
-    "0112",
-    "01012",
-    "110012",
-    "0010012",
-    "01111012",
-    "040214436",
-    "1000110112",
-    "10110101012",
-    "001000111012",
-    "3100155222556",
-    "02101021012013",
-    "010011000000112",
-    "0110110000000112",
-];
-
-/// The words of these equations: the sheet is opened, and they are added. The right sides fit a start in which each entry is as
-/// large as it can be: its step has the entry m / q, where q is the equation's last coefficient.
-fn long_answer() -> Vec<u32> {
-    let m = 61_440;
-    let digits = |line: &str| line.chars().map(|digit| digit.to_digit(10).unwrap()).collect::<Vec<u32>>();
-    let start: Vec<u32> = COEFFICIENTS.iter().map(|line| m / digits(line).last().unwrap() - 1).collect();
-    let mut words = opening(m, 16);
-    for line in COEFFICIENTS {
-        let mut numbers = digits(line);
-        let right = numbers.iter().zip(&start).map(|(a, x)| a * x).sum::<u32>() % m;
-        numbers.resize(16, 0);
-        words.extend(equation(&[numbers, vec![right]].concat().iter().map(|&number| number as i64).collect::<Vec<i64>>()));
+/// Equations in 16 unknowns with the longest answer: 2·x1 = b, x1 + 2·x2 = c, x2 + 2·x3 = c and so on, mod 15 times 2^28. A step begins
+/// with half the modulus, and each entry behind that is half of what is left up to the modulus: so all have ten digits. The right sides fit
+/// a start in which each entry is as large as it can be. The words of the opening, and of each equation.
+fn long_answer() -> Vec<Vec<u32>> {
+    let m: u32 = 15 << 28;
+    let largest = m as i64 / 2 - 1;
+    let mut words = vec![opening(m, 16)];
+    for i in 0..16 {
+        let mut numbers = vec![0; 17];
+        numbers[i] = 2;
+        if i > 0 {
+            numbers[i - 1] = 1;
+        }
+        numbers[16] = numbers.iter().sum::<i64>() * largest % m as i64;
+        words.push(equation(&numbers));
     }
     words
 }
 
 #[test]
-fn the_longest_tape_of_long_answers_fits_its_room_and_nearly_fills_it() {
-    let mut words = long_answer();
+fn the_longest_tape_of_longest_answers_fits_its_room_and_nearly_fills_it() {
+    let mut words = long_answer().concat();
     let before = lines(&words);
     words.push(word(ANSWER, 0));
     let all = lines(&words);
     let answer = all.strip_prefix(&before).unwrap();
     assert_eq!(answer.split_inclusive('\n').map(str::len).max(), Some(limit("LONGEST_LINE")));
     assert_eq!(answer.lines().count(), limit("LARGEST_HEAD"));
-    assert_eq!(answer.len(), limit("LONGEST_ANSWER") - 4, "{answer}");
+    assert_eq!(answer.len(), limit("LONGEST_ANSWER"), "{answer}");
 
     let longest = limit("LONGEST_TAPE");
     words.resize(longest / 4, word(ANSWER, 0));

@@ -16,7 +16,7 @@ mod tape;
 
 use acts::{answer, answered, entered, full_size_system, random_solvable, random_unsolvable, reason};
 use exercises::{chance, pick, plus, unit};
-use face::{untouched, LONGEST_BLOCK};
+use face::{untouched, LONGEST_WORDS};
 use ledger::{claim, OWN_REASONED, REASONED};
 use planted::{any_divisor, any_vector, planted, times};
 use random::Random;
@@ -63,9 +63,9 @@ impl Verdict {
 fn verdict(desk: &mut Desk, vectors: &[Vec<u32>]) -> Verdict {
     let words = claim(vectors);
     let mark = desk.act(&Act::Mark(words.clone())).unwrap().outcome;
-    let reply = desk.act(&reason(&words, 4, 17)).unwrap();
+    let reply = desk.act(&reason(&words, 4, 33)).unwrap();
     let at: Vec<u32> = reply.at[..3].to_vec();
-    let silent = reply.buffer == untouched(17);
+    let silent = reply.buffer == untouched(33);
     match (mark, reply.outcome) {
         (Outcome::Pass, Outcome::Reason(0)) if silent && at == [0, 0, 0] => Verdict::Pass,
         (Outcome::Long, Outcome::Reason(6)) if silent && at[0] > 0 && at[1..] == [0, 0] => Verdict::Long(at[0] as usize),
@@ -81,8 +81,8 @@ fn verdicts(system: &System, claims: &[Vectors], seed: u64) -> Vec<Verdict> {
     let adding = system.equations.iter().flat_map(|line| ledger::line_words(system.m, line));
     let entering: Vec<u32> = ledger::opening(system.m, system.n as u32).into_iter().chain(adding).collect();
     let added: String = (1..=system.equations.len()).map(|held| format!("added {held}\n")).collect();
-    // so many of the longest claims fit on a tape
-    for (claims, found) in claims.chunks(32).zip(found.chunks(32)) {
+    // so many of the longest claims fit on a tape, where each entry takes two words
+    for (claims, found) in claims.chunks(28).zip(found.chunks(28)) {
         let words: Vec<u32> = claims.iter().flat_map(|vectors| claim(vectors)).collect();
         let marks = desk.act(&Act::Class(words.clone(), vec![0xC0; claims.len()])).unwrap().marks;
         let bytes: Vec<u8> = found.iter().map(|verdict| verdict.written().0).collect();
@@ -131,7 +131,7 @@ fn the_values_of_the_request() {
     let example = System::plain(4, 2, vec![vec![1, 2, 0]]);
     let own = vectors(&[0, 0], &[&[2, 1], &[0, 2]]);
     let mut desk = entered(&example);
-    assert_eq!(answered(&desk.act(&answer(LONGEST_BLOCK)).unwrap()), [3, 0, 0, 2, 1, 0, 2]);
+    assert_eq!(answered(&desk.act(&answer(LONGEST_WORDS)).unwrap()), [3, 0, 0, 2, 1, 0, 2]);
     assert_eq!(desk.act(&Act::MarkBlock).unwrap().outcome, Outcome::Long);
     expect(&example, &[(own, Verdict::Long(2)), (vectors(&[0, 0], &[&[2, 3]]), Verdict::Pass)], 0);
     // x = 5 mod 6: "the zero vector as a step is always superfluous"
@@ -348,11 +348,39 @@ impl Basis {
     }
 }
 
-const MODULI: [u32; 12] = [2, 4, 6, 12, 30, 60, 30_030, 32_768, 65_520, 65_521, 65_534, 65_535];
+const MODULI: [u32; 18] = [
+    2,
+    4,
+    6,
+    12,
+    30,
+    60,
+    30_030,
+    32_768,
+    65_520,
+    65_521,
+    65_534,
+    65_535,
+    65_536,
+    1 << 28,
+    (1 << 28) + 1,
+    3_234_846_615,
+    4_294_967_291,
+    u32::MAX,
+];
 
-/// A prime that divides m.
+/// A prime that divides m: each number from 2 on is divided out as often as it goes, and what is left in the end is a prime too.
 fn prime(random: &mut Random, m: u32) -> u32 {
-    let primes: Vec<u32> = (2..=m).filter(|p| m % p == 0 && (2..*p).take_while(|q| q * q <= *p).all(|q| p % q != 0)).collect();
+    let (mut left, mut primes) = (m, vec![]);
+    for p in (2..).take_while(|p| p * p <= m as u64).map(|p| p as u32) {
+        if left % p == 0 {
+            primes.push(p);
+        }
+        while left % p == 0 {
+            left /= p;
+        }
+    }
+    primes.extend((left > 1).then_some(left));
     pick(random, &primes)
 }
 
@@ -697,7 +725,7 @@ fn our_own_answers_are_right_and_pass_or_are_long() {
             _ => full_size_system(&mut random, true),
         };
         let mut desk = entered(&system);
-        let block = answered(&desk.act(&answer(LONGEST_BLOCK)).unwrap());
+        let block = answered(&desk.act(&answer(LONGEST_WORDS)).unwrap());
         let vectors: Vectors = block[1..].chunks(system.n).map(|v| v.to_vec()).collect();
         let marked = desk.act(&Act::MarkBlock).unwrap().outcome;
         let found = verdicts(&system, &[vectors.clone()], random.seed)[0];

@@ -15,7 +15,7 @@ mod tape;
 use acts::{add, add_own, add_text, answer, answered, class, entered, entering, expect, last, mark, open, outcomes, reason};
 use acts::{replied, step, Tally};
 use exercises::{chance, pick};
-use face::LONGEST_BLOCK;
+use face::LONGEST_WORDS;
 use ledger::{claim, equation, own_equation, word, Ledger, COEFFICIENT, ENTRY, MULTIPLIER, OWN_MODULUS, OWN_REASONED, RIGHT};
 use random::Random;
 use reference::{Line, System};
@@ -45,7 +45,7 @@ fn entering_own(system: &System) -> Vec<Act> {
 
 /// The numbers of the answer block after these calls, which do what the reference says.
 fn answer_after(acts: &[Act]) -> Vec<u32> {
-    answered(expect(&[acts, &[answer(LONGEST_BLOCK)]].concat(), 0, &mut Tally::new()).last().unwrap())
+    answered(expect(&[acts, &[answer(LONGEST_WORDS)]].concat(), 0, &mut Tally::new()).last().unwrap())
 }
 
 /// The same for lines in one unknown.
@@ -160,7 +160,7 @@ fn reasons_marks_and_classes_that_were_worked_out_by_hand() {
 fn every_number_of_a_modulus_is_taken_exactly_if_it_is_at_least_2_and_divides() {
     for m in (2..=40).chain(MODULI) {
         let (mut desk, mut ledger, mut tally) = (Desk::fresh(), Ledger::Unopened, Tally::new());
-        let high = [1 << 16, 1 << 24, 1 << 27].iter().flat_map(|bit| [bit + 1, bit + 2, bit + 3, bit + m]);
+        let high = [1 << 16, 1 << 24, 1 << 27, 1 << 28, 1 << 31].iter().flat_map(|bit| [bit + 1, bit + 2, bit + 3, bit + m]);
         let most = if m <= 40 { 2 * m + 2 } else { 300 };
         for q in (0..=most).chain([m - 1, m, m + 1, m / 2, 2 * m, ledger::LARGEST as u32]).chain(high) {
             for act in [open(m, 1), add_own(q, &[1, 1])] {
@@ -170,6 +170,17 @@ fn every_number_of_a_modulus_is_taken_exactly_if_it_is_at_least_2_and_divides() 
             }
         }
     }
+}
+
+/// The words that lie in this memory, each with its places.
+fn parts(memory: &[u32]) -> Vec<Vec<u32>> {
+    let (mut parts, mut rest) = (vec![], memory);
+    while !rest.is_empty() {
+        let (word, behind) = rest.split_at(ledger::front(rest, 1));
+        parts.push(word.to_vec());
+        rest = behind;
+    }
+    parts
 }
 
 #[test]
@@ -186,9 +197,9 @@ fn questions_are_asked_in_their_order_and_a_refused_call_changes_nothing() {
         }
         let before = desk.numbers().to_vec();
         for q in [exercises::divisor(&mut random, m), m, 0, 1, m + 1, 2 * m] {
-            let good = own_equation(q, &numbers);
+            let good = parts(&own_equation(q, &numbers));
             let mut other_kind = good.clone();
-            other_kind[1 + random.below(n as u64 + 1) as usize] = word(ENTRY, 1);
+            other_kind[1 + random.below(n as u64 + 1) as usize] = vec![word(ENTRY, 1)];
             let mut moved = good.clone();
             moved.swap(0, 1 + random.below(n as u64 + 1) as usize);
             let twice = [&good[..1], &good].concat();
@@ -202,7 +213,7 @@ fn questions_are_asked_in_their_order_and_a_refused_call_changes_nothing() {
                 good,
             ];
             for (shape, words) in shapes.iter().enumerate() {
-                let act = Act::Add(words.clone());
+                let act = Act::Add(words.concat());
                 assert_eq!(Desk::fresh().act(&act).unwrap().outcome, Outcome::Refused(4), "{act:x?}");
                 let expected = match (shape, q >= 2 && m % q == 0, held) {
                     (0..=5, ..) => Outcome::Refused(1),
@@ -243,7 +254,7 @@ fn the_modulus_of_the_sheet_in_front_makes_the_plain_line() {
             both([add_own(m, &numbers), add(&numbers)]);
             let vectors = exercises::any_claim(&mut random, m, n as usize);
             for act in
-                [answer(LONGEST_BLOCK), mark(&vectors), reason(&claim(&vectors), 3, 16), class(&mut random, &claim(&vectors), 64)]
+                [answer(LONGEST_WORDS), mark(&vectors), reason(&claim(&vectors), 3, 16), class(&mut random, &claim(&vectors), 64)]
             {
                 both([act.clone(), act]);
             }
@@ -279,8 +290,10 @@ fn a_line_says_what_the_plain_line_with_both_sides_times_m_over_q_says() {
             unsolvable += 1;
         }
         let words = exercises::claim(&mut random, &system);
-        let replies = [&system, &plain].map(|system| replied(&mut entered(system), system, &reason(&words, 3, 16), random.seed));
-        assert_eq!((replies[0].outcome, &replies[0].at), (replies[1].outcome, &replies[1].at), "{system:?}: {words:x?}");
+        let replies = [&system, &plain].map(|system| replied(&mut entered(system), system, &reason(&words, 3, 32), random.seed));
+        // what is shown is free, and so is how many words it has where m is above 2^28
+        let named = replies.map(|reply| (reply.outcome, reply.at[..2].to_vec()));
+        assert_eq!(named[0], named[1], "{system:?}: {words:x?}");
     }
     assert!(solvable > 200 && unsolvable > 50, "{solvable} solvable, {unsolvable} unsolvable");
 }
@@ -316,7 +329,7 @@ fn every_pair_of_clocks_shows_the_hours_at_which_both_are_right() {
 }
 
 #[test]
-fn numbers_are_brought_to_their_residues_mod_q_with_all_their_28_bits() {
+fn numbers_are_brought_to_their_residues_mod_q_with_all_their_32_bits() {
     let mut random = Random::new();
     for m in MODULI {
         for q in divisors(m) {
@@ -324,7 +337,7 @@ fn numbers_are_brought_to_their_residues_mod_q_with_all_their_28_bits() {
             for number in [-1, 1, q as i64, m as i64 - 1, -(m as i64) - 1, ledger::LARGEST, -ledger::LARGEST, number] {
                 let residue = number.rem_euclid(q as i64) as u32;
                 let expected = if q == m { vec![1, residue] } else { vec![2, residue, q] };
-                let acts = [open(m, 1), add_own(q, &[1, number]), answer(LONGEST_BLOCK)];
+                let acts = [open(m, 1), add_own(q, &[1, number]), answer(LONGEST_WORDS)];
                 let mut desk = Desk::fresh();
                 let replies = acts.map(|act| desk.act(&act).unwrap());
                 assert_eq!(answered(&replies[2]), expected, "{number} mod {q}, mod {m}");
@@ -357,7 +370,7 @@ fn a_struck_line_leaves_nothing_of_its_modulus_behind() {
 #[test]
 fn full_size_sheets_with_16_moduli() {
     let mut random = Random::new();
-    for m in [30_030, 32_768, 65_520, 65_535] {
+    for m in [30_030, 32_768, 65_520, 65_535, 3_234_846_615, 4_026_531_840] {
         for _ in 0..10 {
             let solution: Vec<u32> = (0..16).map(|_| random.below(m as u64) as u32).collect();
             let mut system = System::empty(m, 16);
@@ -369,7 +382,7 @@ fn full_size_sheets_with_16_moduli() {
             }
             // whether a block or a claim that is right is long, is seen by plugging in
             let is_right = |outcome: Outcome| [Outcome::Pass, Outcome::Long].contains(&outcome);
-            let acts = [entering_own(&system), vec![answer(LONGEST_BLOCK), Act::MarkBlock]].concat();
+            let acts = [entering_own(&system), vec![answer(LONGEST_WORDS), Act::MarkBlock]].concat();
             assert!(is_right(last(&acts)), "{system:?} (seed {})", random.seed);
             // the solution is among those that were found, and one beside it is not
             let found = shown::solved(&system).expect("it has one");

@@ -6,10 +6,10 @@ mod reference;
 mod tape;
 
 use grammar::{Tree, Typed, ADDED, OUTSIDE, REFUSED};
-use ledger::{Call, Ledger, Reason, Said, Solved, LARGEST, OWN_REASONED, REASONED};
+use ledger::{Call, Ledger, Reason, Said, Solved, Word, LARGEST, OWN_REASONED, REASONED};
 use reference::{Answer, Congruence, System};
 use std::rc::Rc;
-use tape::{OWN, PAPER_LINES, PAPER_TAPE, SIGNED};
+use tape::{OWN, PAPER_LINES, PAPER_TAPE, SIGNED, WIDE};
 
 fn system(m: u32, n: usize, equations: &[&[i64]]) -> System {
     System::plain(m, n, equations.iter().map(|equation| equation.to_vec()).collect())
@@ -45,9 +45,10 @@ fn one_congruence_is_as_the_paper_says() {
     assert_eq!(reference::congruence(1, i32::MIN, 65_535), Congruence::Solutions { least: 32_767, spacing: 65_535 });
     assert_eq!(reference::congruence(-4, -8, 12), Congruence::Solutions { least: 2, spacing: 3 });
     assert_eq!(reference::congruence(-4, 6, 12), Congruence::NoSolution);
-    for m in [1, 65_536] {
+    for m in [0, 1] {
         assert_eq!(reference::congruence(-1, 1, m), Congruence::Refused(2));
     }
+    assert_eq!(reference::congruence(-1, 1, 65_536), Congruence::Solutions { least: 65_535, spacing: 65_536 });
 }
 
 /// "A class in one call": how its words are cut, what its bytes say, and when it is turned away.
@@ -137,7 +138,7 @@ fn a_residue_is_the_only_number_below_m_that_differs_by_a_multiple_of_m() {
 
 #[test]
 fn equations_with_signs_and_large_numbers_have_the_solutions_of_their_residues() {
-    let written = [system(7, 2, &[&[1, -2, -1]]), system(7, 2, &[&[-6, 12, 700_006]]), system(7, 2, &[&[8, -9, -LARGEST]])];
+    let written = [system(7, 2, &[&[1, -2, -1]]), system(7, 2, &[&[-6, 12, 700_006]]), system(7, 2, &[&[8, -9, -268_435_455]])];
     for system in written {
         assert_eq!(system.reduced().equations[0].numbers, [1, 5, 6]);
         assert_eq!(ledger::solve(&system), from(&[0, 4], &[&[1, 4]]));
@@ -306,13 +307,15 @@ fn an_equation_that_leaves_no_solution_is_struck_again() {
 
 #[test]
 fn limits_are_those_of_the_paper() {
-    for m in [1, 65_536] {
+    for m in [0, 1] {
         assert_eq!(Ledger::Unopened.run(&Call::Open(ledger::opening(m, 1))), Said::Refused(2));
     }
     for n in [0, 17] {
         assert_eq!(Ledger::Unopened.run(&Call::Open(ledger::opening(2, n))), Said::Refused(3));
     }
-    assert_eq!(Ledger::Unopened.run(&Call::Open(ledger::opening(65_535, 16))), Said::Opened { m: 65_535, n: 16 });
+    for m in [65_535, 65_536, 268_435_455, 268_435_456, 4_294_967_295] {
+        assert_eq!(Ledger::Unopened.run(&Call::Open(ledger::opening(m, 16))), Said::Opened { m, n: 16 });
+    }
     let mut sheet = opened(2, 1, &[&[1, 1][..]; 16]);
     assert_eq!(sheet.run(&Call::Add(ledger::equation(&[1, 1]))), Said::Refused(5));
     assert_eq!(sheet.run(&Call::Add(ledger::equation(&[2, 1]))), Said::Refused(5));
@@ -361,7 +364,8 @@ fn prints(tape: &[u8], lines: &str) {
 
 #[test]
 fn the_tape_is_cut_into_calls_as_the_paper_says() {
-    for (words, lines) in [tape::readings(), tape::signed_readings(), tape::own_readings(), tape::long_readings()].concat() {
+    let all = [tape::readings(), tape::signed_readings(), tape::own_readings(), tape::long_readings(), tape::wide_readings()];
+    for (words, lines) in all.concat() {
         prints(&tape::bytes(&words), &lines);
     }
 }
@@ -372,6 +376,57 @@ fn equations_with_minus_signs_have_the_answers_that_were_worked_out_by_hand() {
         let (words, lines) = tape::signed_tape(m, equation, answer);
         prints(&tape::bytes(&words), &lines);
     }
+}
+
+#[test]
+fn equations_with_large_moduli_have_the_answers_that_were_worked_out_by_hand() {
+    for (m, equation, answer) in WIDE {
+        let (words, lines) = tape::wide_tape(m, equation, answer);
+        prints(&tape::bytes(&words), &lines);
+    }
+}
+
+/// "Moduli of 32 bits": how words lie in memory, and how long buffers must be.
+#[test]
+fn words_of_two_places_are_as_the_request_says() {
+    let word = |kind: u32, number: u32| Word { kind, number };
+    let top = |number: u32| 0xD000_0000 + number;
+    assert_eq!(ledger::joined(&[]), []);
+    for kind in 0..16 {
+        let takes = [1, 3, 4, 6, 7, 10, 11, 12].contains(&kind);
+        let low = kind * (1 << 28) + 5;
+        for number in [0, 1, 2, 14, 15, 16, 17, 31, 268_435_455] {
+            let good = takes && (1..=15).contains(&number);
+            let two = vec![word(13, number), word(kind, 5)];
+            let expected = if good { vec![word(kind, number.wrapping_mul(268_435_456) + 5)] } else { two };
+            assert_eq!(ledger::joined(&[top(number), low]), expected, "{number} before kind {kind}");
+            assert_eq!(ledger::front(&[top(number), low], 1), 1 + good as usize, "{number} before kind {kind}");
+            assert_eq!(ledger::front(&[top(number), low], 2), 2, "{number} before kind {kind}");
+        }
+    }
+    // 13 13 1: the first is bad, and the second is good
+    assert_eq!(ledger::joined(&[top(1), top(2), 0x1000_0003]), [word(13, 1), word(1, 536_870_915)]);
+    // behind all, and before a pair
+    assert_eq!(ledger::joined(&[0x3000_0001, top(1)]), [word(3, 1), word(13, 1)]);
+    assert_eq!(ledger::joined(&[top(15), 0x6FFF_FFFF, top(1), 0x6000_0000]), [word(6, 4_294_967_295), word(6, 268_435_456)]);
+    assert_eq!(ledger::front(&[top(1), 0x6000_0000, 0x6000_0000, top(1)], 2), 3);
+    assert_eq!(ledger::front(&[top(1), 0x6000_0000, 0x6000_0000, top(1)], 9), 4);
+    for (number, places) in [(0, vec![0x6000_0000]), (268_435_455, vec![0x6FFF_FFFF]), (268_435_456, vec![top(1), 0x6000_0000])] {
+        assert_eq!(ledger::written(6, number), places);
+    }
+    assert_eq!(ledger::written(7, 4_294_967_295), [top(15), 0x7FFF_FFFF]);
+    assert_eq!([2, 268_435_456, 268_435_457, 4_294_967_295].map(ledger::counted), [1, 1, 2, 2]);
+    assert_eq!(ledger::opening(4_294_967_295, 1), [top(15), 0x1FFF_FFFF, 0x2000_0001]);
+    // of a claim, and of a class in which a good one is in a head's place
+    let claims = [vec![0x5000_0001, top(1), 0x6000_0000], vec![top(1), 0x6000_0000], vec![top(1)], vec![0x5000_0000]];
+    assert_eq!(ledger::claims(1, &claims.concat()), claims);
+    // on a sheet that is not opened 4 comes first; then 17, and then the shape
+    let loose = vec![top(1), 0x9000_0000];
+    for call in [Call::Add(loose.clone()), Call::Mark(loose.clone()), Call::Reason(loose.clone(), 0, 0)] {
+        assert_eq!(Ledger::Unopened.run(&call), Said::Refused(4));
+        assert_eq!(opened(3, 2, &[]).run(&call), Said::Refused(17));
+    }
+    assert_eq!(Ledger::Unopened.run(&Call::Open(loose)), Said::Refused(17));
 }
 
 #[test]

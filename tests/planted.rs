@@ -13,7 +13,7 @@ pub fn any_divisor(random: &mut Random, m: u32) -> u32 {
 
 /// The sum of products mod m.
 fn product(m: u32, v: &[u32], w: &[u32]) -> u32 {
-    (v.iter().zip(w).map(|(&x, &y)| x as u64 * y as u64).sum::<u64>() % m as u64) as u32
+    (v.iter().zip(w).map(|(&x, &y)| x as u128 * y as u128).sum::<u128>() % m as u128) as u32
 }
 
 /// t·v mod m
@@ -49,7 +49,8 @@ fn mixed(random: &mut Random, m: u32, lines: &mut [Shared]) {
 fn contradiction(random: &mut Random, m: u32, line: &Shared) -> Shared {
     let q = exercises::divisor(random, m / line.divisor);
     let mut numbers: Vec<u32> = line.numbers.iter().map(|x| x / line.divisor).collect();
-    *numbers.last_mut().expect("a right side") += 1 + random.below(q as u64 - 1) as u32;
+    let right = numbers.last_mut().expect("a right side");
+    *right = plus(m, &[*right], 1 + random.below(q as u64 - 1), &[1])[0];
     Shared { divisor: m / q, numbers: times(m, m / q, &numbers) }
 }
 
@@ -83,7 +84,7 @@ pub fn planted(random: &mut Random, m: u32, divisors: &[u32], solvable: bool) ->
         } else {
             let d = divisors.iter().copied().find(|&d| d > 1).unwrap_or(m);
             let mut numbers = times(m, d, &any_vector(random, m, n + 1));
-            numbers[n] = (numbers[n] + 1) % m;
+            numbers[n] = plus(m, &[numbers[n]], 1, &[1])[0];
             lines.push(Shared { divisor: 1, numbers });
         }
     }

@@ -13,7 +13,7 @@ mod sheet;
 mod shown;
 mod spelling;
 
-use acts::{entered, random_solvable, random_unsolvable, reason, replied};
+use acts::{entered, random_solvable, random_unsolvable, reason, replied, WIDE};
 use exercises::{chance, pick, plus, Flaw};
 use ledger::{claim, word, Reason, ENTRY, MULTIPLIER, OWN_REASONED, REASONED};
 use planted::{any_divisor, any_vector, planted, times};
@@ -44,7 +44,8 @@ impl Posed {
             }
             3 => Posed::new(random_unsolvable(random), None),
             place => {
-                let m = pick(random, &[12, 60, 30_030, 32_768, 65_520, 65_521, 65_535]);
+                let wide = pick(random, &WIDE);
+                let m = pick(random, &[12, 60, 30_030, 32_768, 65_520, 65_521, 65_535, wide, wide, wide]);
                 let divisors: Vec<u32> = (0..pick(random, &[5, 8, 15, 16])).map(|_| any_divisor(random, m)).collect();
                 Posed::planted(random, m, &divisors, place == 4)
             }
@@ -69,9 +70,9 @@ impl Posed {
         }
     }
 
-    /// How many words are shown with the reason.
-    fn words(&self, vectors: &[Vec<u32>]) -> usize {
-        self.known(vectors).map_or(0, |reason| reason.words(&self.system))
+    /// How long a buffer is asked for.
+    fn room(&self, vectors: &[Vec<u32>]) -> usize {
+        self.known(vectors).map_or(0, |reason| reason.room(&self.system))
     }
 
     /// The reply to the call, which the reference and a mark confirm. The sheet keeps every number.
@@ -81,7 +82,7 @@ impl Posed {
 
     /// The reply to a call with room for every reason.
     fn roomy(&mut self, vectors: &[Vec<u32>], seed: u64) -> Reply {
-        self.reply(&reason(&claim(vectors), 4, 17), seed)
+        self.reply(&reason(&claim(vectors), 4, 33), seed)
     }
 }
 
@@ -109,7 +110,8 @@ enum Kind {
 const KINDS: [Kind; 8] =
     [Kind::Right, Kind::Long, Kind::NoSolution, Kind::Start, Kind::Step, Kind::Short, Kind::Several, Kind::Any];
 
-const FLAWS: [Flaw; 6] = [Flaw::NotBelow, Flaw::Misfit, Flaw::LargeHead, Flaw::Stray, Flaw::Cut, Flaw::Long];
+const FLAWS: [Flaw; 8] =
+    [Flaw::NotBelow, Flaw::Misfit, Flaw::Top, Flaw::Loose, Flaw::LargeHead, Flaw::Stray, Flaw::Cut, Flaw::Long];
 
 /// One entry of the vector is another.
 fn disturb(random: &mut Random, m: u32, v: &mut [u32]) {
@@ -267,7 +269,7 @@ fn each_reason_is_the_first_that_holds_and_true_and_there_is_none_where_the_clai
         let mut posed = Posed::random(&mut random, round);
         let (large, kind) = (posed.is_large(), pick(&mut random, &KINDS));
         let vectors = vectors(&mut random, &posed, kind);
-        let (known, count) = (posed.known(&vectors), posed.words(&vectors));
+        let (known, count) = (posed.known(&vectors), posed.room(&vectors));
         let [number, ..] = known.map_or([0; 3], Reason::numbers);
         let at = pick(&mut random, &[0, 1, 2, 3, 3, 3, 3, 3, 4, 7]);
         let out = pick(&mut random, &[count.saturating_sub(1), 0, count, count, count, count + 1, count + 3, 40]);
@@ -320,9 +322,13 @@ fn claims_that_cannot_be_marked_have_no_reason_whatever_is_lent() {
         let mut posed = Posed::random(&mut random, round);
         let flaw = pick(&mut random, &FLAWS);
         let words = malformed(&mut random, &posed, flaw);
-        let (at, out) = (pick(&mut random, &[0, 1, 2, 3, 4]), pick(&mut random, &[0, 1, 15, 16, 17]));
+        let (at, out) = (pick(&mut random, &[0, 1, 2, 3, 4]), pick(&mut random, &[0, 1, 16, 31, 32, 33]));
         let reply = posed.reply(&reason(&words, at, out), random.seed);
-        let number = if flaw == Flaw::NotBelow { 6 } else { 1 };
+        let number = match flaw {
+            Flaw::NotBelow => 6,
+            Flaw::Top | Flaw::Loose => 17,
+            _ => 1,
+        };
         assert_eq!(reply.outcome, Outcome::Refused(number), "{flaw:?} {words:x?} (seed {})", random.seed);
         seen.look(posed.is_large(), flaw, true);
         let unopened = Desk::fresh().act(&reason(&words, at, out)).unwrap().outcome;
@@ -400,7 +406,7 @@ fn three_numbers_of_at_and_the_words_of_the_reason_are_enough_and_less_is_not() 
         let mut posed = Posed::random(&mut random, round);
         for kind in KINDS {
             let vectors = vectors(&mut random, &posed, kind);
-            let (known, count) = (posed.known(&vectors), posed.words(&vectors));
+            let (known, count) = (posed.known(&vectors), posed.room(&vectors));
             let [number, ..] = known.map_or([0; 3], Reason::numbers);
             let whole = posed.roomy(&vectors, random.seed);
             for at in 0..=5 {
@@ -428,16 +434,18 @@ fn questions_are_those_of_marking_in_their_order_and_then_8() {
         let mut posed = Posed::random(&mut random, round);
         let (m, n) = (posed.system.m, posed.system.n);
         for vectors in [vectors(&mut random, &posed, Kind::Any), vec![any_vector(&mut random, m, n); 17], vec![vec![0; n]]] {
-            let (good, count) = (claim(&vectors), posed.words(&vectors));
+            let (good, count) = (claim(&vectors), posed.room(&vectors));
             let [number, ..] = posed.known(&vectors).map_or([0; 3], Reason::numbers);
-            let mut large = good.clone();
-            large[1] = word(ENTRY, m);
+            let mut above = vectors.clone();
+            above[0][0] = m;
+            let large = claim(&above);
             for (words, below) in [(&good, true), (&large, false)] {
                 // as it is, a word too few, a word too many, of another kind
                 let mut other = words.to_vec();
                 let last = other.last_mut().unwrap();
                 *last = word(MULTIPLIER, ledger::number(*last));
-                let shapes = [words.to_vec(), words[..words.len() - 1].to_vec(), [&words[..], &[word(ENTRY, 0)]].concat(), other];
+                let fewer = ledger::front(words, ledger::joined(words).len() - 1);
+                let shapes = [words.to_vec(), words[..fewer].to_vec(), [&words[..], &[word(ENTRY, 0)]].concat(), other];
                 for (shape, words) in shapes.iter().enumerate() {
                     for (at, out) in [(3, count), (2, count), (3, count.saturating_sub(1)), (0, 0)] {
                         let act = reason(words, at, out);
@@ -458,16 +466,31 @@ fn questions_are_those_of_marking_in_their_order_and_then_8() {
     }
 }
 
+/// Moduli, each with a divisor.
+const FACTORS: [(u32, u32); 10] = [
+    (4, 2),
+    (12, 3),
+    (12, 4),
+    (60, 6),
+    (30_030, 30),
+    (65_520, 12),
+    (65_535, 255),
+    (1 << 28, 1 << 14),
+    (4_026_531_840, 240),
+    (u32::MAX, 255),
+];
+
 #[test]
 fn steps_are_gone_through_before_equations_and_the_start_before_both() {
     let mut random = Random::new();
     let (mut broken, mut changed, mut turned) = (0, 0, 0);
     for _ in 0..2_000 {
         // d times each unknown is what it is `there`; an entry of the way from there leaves it so exactly if m / d divides it
-        let (m, d) = pick(&mut random, &[(4, 2), (12, 3), (12, 4), (60, 6), (30_030, 30), (65_520, 12), (65_535, 255)]);
+        let (m, d) = pick(&mut random, &FACTORS);
         let (n, count) = (2 + random.below(15) as usize, 1 + random.below(17) as usize);
         let there = any_vector(&mut random, m, n);
-        let line = |j: usize| (0..n).map(|i| (i == j) as i64 * d as i64).chain([d as i64 * there[j] as i64]).collect();
+        let right = |j: usize| (d as i64 * there[j] as i64) % m as i64;
+        let line = |j: usize| (0..n).map(|i| (i == j) as i64 * d as i64).chain([right(j)]).collect();
         let mut system = System::plain(m, n, (0..n).map(line).collect());
         // some of them divided by d: the unknown is what it is there mod m / d
         for (j, line) in system.equations.iter_mut().enumerate().filter(|_| chance(&mut random, 2)) {
@@ -506,8 +529,8 @@ fn steps_are_gone_through_before_equations_and_the_start_before_both() {
 #[test]
 fn full_size_claims_of_17_vectors_with_one_fault() {
     let mut random = Random::new();
-    for round in 0..16 {
-        let (m, d) = [(65_520, 12), (32_768, 256), (30_030, 30), (65_535, 255)][round % 4];
+    for round in 0..18 {
+        let (m, d) = [(65_520, 12), (32_768, 256), (30_030, 30), (65_535, 255), (4_026_531_840, 240), (u32::MAX, 255)][round % 6];
         let mut posed = Posed::planted(&mut random, m, &[d; 16], true);
         let answer = posed.answer.clone().expect("a solution");
         let right = exercises::right_claim(&mut random, m, &answer);

@@ -57,12 +57,23 @@ pub enum Congruence {
     Solutions { least: u32, spacing: u32 },
 }
 
-/// "m allowed? 2.", then every t from 0 on: a·t - b, a whole number, is a multiple of m. The spacing is the way to the next
-/// solution, which may lie past m.
+/// "The sheet, claims, safe and one congruence take m in 2..4,294,967,295": of 32 bits, all from 2 on.
+pub fn is_modulus(m: u32) -> bool {
+    m >= 2
+}
+
+/// Whether t solves a·t = b mod m: a·t - b, a whole number, is a multiple of m.
+pub fn is_solution(a: i32, b: i32, m: u32, t: u32) -> bool {
+    (a as i128 * t as i128 - b as i128) % m as i128 == 0
+}
+
+/// "m allowed? 2.", then every t from 0 on, for an m that is not too large to try all. The spacing is the way to the next solution,
+/// which may lie past m.
 pub fn congruence(a: i32, b: i32, m: u32) -> Congruence {
-    if !(2..=65_535).contains(&m) {
+    if !is_modulus(m) {
         return Congruence::Refused(2);
     }
+    assert!(m < 1 << 24);
     let solves = |t: &i64| (a as i64 * t - b as i64) % m as i64 == 0;
     match (0..m as i64).find(solves) {
         None => Congruence::NoSolution,
@@ -88,8 +99,8 @@ pub struct Line {
 
 impl Line {
     /// The left side: the sum of coefficient times entry, a whole number.
-    pub fn left(&self, vector: &[u32]) -> i128 {
-        vector.iter().zip(&self.numbers).map(|(&x, &a)| x as i128 * a as i128).sum()
+    pub fn left<T: Copy + Into<u64>>(&self, vector: &[T]) -> i128 {
+        vector.iter().zip(&self.numbers).map(|(&x, &a)| x.into() as i128 * a as i128).sum()
     }
 
     /// "The line holds if both sides agree mod q": their difference, a whole number, is a multiple of q.
@@ -141,7 +152,8 @@ impl System {
     /// The equations as milebadger_solve takes them, which knows no modulus but m: both sides times m / q, as residues, one equation
     /// behind the other.
     pub fn lines(&self) -> Vec<u32> {
-        let times = |line: &Line, number: i64| residue(self.m, number * (self.m / line.q) as i64);
+        let m = self.m as i128;
+        let times = |line: &Line, number: i64| (number as i128 * (m / line.q as i128)).rem_euclid(m) as u32;
         self.equations.iter().flat_map(|line| line.numbers.iter().map(move |&number| times(line, number))).collect()
     }
 
@@ -263,6 +275,10 @@ pub struct Safe {
 }
 
 impl Safe {
+    fn plus(&self, x: u32, t: u32) -> u32 {
+        ((x as u64 + t as u64) % self.m as u64) as u32
+    }
+
     /// "Turning a lock by t adds t to each lock in its row and column, itself once": every row and column is gone through, as the
     /// sentence reads, and each turn is made in its turn.
     pub fn after(&self, turns: &[u32]) -> Vec<u32> {
@@ -271,10 +287,10 @@ impl Safe {
             for column in 0..self.columns {
                 let t = turns[row * self.columns + column];
                 for other in 0..self.columns {
-                    locks[row][other] = (locks[row][other] + t) % self.m;
+                    locks[row][other] = self.plus(locks[row][other], t);
                 }
                 for other in (0..self.rows).filter(|&other| other != row) {
-                    locks[other][column] = (locks[other][column] + t) % self.m;
+                    locks[other][column] = self.plus(locks[other][column], t);
                 }
             }
         }
@@ -293,19 +309,92 @@ impl Safe {
 }
 
 /// The question about its arguments that turns a call of milebadger_safe away, where there is one: "m? 2. Size? 3. Kind 6, right
-/// count? 1. Below m? 6."
+/// count? 1. Below m? 6.", and 17 "right before 1".
 pub fn safe_refusal(m: u32, rows: u32, columns: u32, values: &[u32]) -> Option<u32> {
-    let locks = rows as u64 * columns as u64;
+    let (locks, words) = (rows as u64 * columns as u64, joined(values));
     let questions = [
-        (2, (2..=65_535).contains(&m)),
+        (2, is_modulus(m)),
         (3, rows >= 1 && columns >= 1 && locks <= 16),
-        (1, values.len() as u64 == locks && values.iter().all(|word| word >> 28 == 6)),
-        (6, values.iter().all(|word| word & 0x0FFF_FFFF < m)),
+        (17, words.iter().all(|word| word.kind != TOP)),
+        (1, words.len() as u64 == locks && words.iter().all(|word| word.kind == 6)),
+        (6, words.iter().all(|word| word.number < m)),
     ];
     questions.iter().find(|(_, yes)| !yes).map(|&(number, _)| number)
 }
 
-/// A word of kind 6, "vector entry".
+/// A word of kind 6, "vector entry", which lies in one place of memory.
 pub fn entry(number: u32) -> u32 {
+    assert!(number < 1 << 28);
     6 << 28 | number
+}
+
+/// A word: "the top 4 are its kind, the low 28 its number", or 32 of them where "a word of kind 13 carries the top 4 bits".
+#[derive(Clone, Copy, Debug, PartialEq)]
+pub struct Word {
+    pub kind: u32,
+    pub number: u32,
+}
+
+/// "A word of kind 13 carries the top 4 bits of the next word's number."
+pub const TOP: u32 = 13;
+
+/// A place of memory alone.
+fn alone(place: u32) -> Word {
+    Word { kind: place >> 28, number: place & 0x0FFF_FFFF }
+}
+
+/// How many places the first word takes: two where it is "a good kind 13 word" with "the word after it", of which it "counts as part".
+/// It is none "with number 0 or above 15, or not right before a word of kinds 1, 3, 4, 6, 7, 10, 11 or 12".
+fn first_takes(memory: &[u32]) -> usize {
+    let Word { kind, number } = alone(memory[0]);
+    let before = memory.get(1).is_some_and(|&next| [1, 3, 4, 6, 7, 10, 11, 12].contains(&(next >> 28)));
+    if kind == TOP && (1..=15).contains(&number) && before {
+        2
+    } else {
+        1
+    }
+}
+
+/// The words that lie in this memory. One of kind 13 among them "breaks the rule" and "counts as a word of its own".
+pub fn joined(memory: &[u32]) -> Vec<Word> {
+    let (mut words, mut rest) = (vec![], memory);
+    while !rest.is_empty() {
+        let (own, behind) = rest.split_at(first_takes(rest));
+        words.push(match own {
+            [top, low] => Word { kind: low >> 28, number: alone(*top).number * (1 << 28) + alone(*low).number },
+            _ => alone(own[0]),
+        });
+        rest = behind;
+    }
+    words
+}
+
+/// How much of the memory its first words take, so many of them, or all that there are if they are fewer.
+pub fn front(memory: &[u32], words: usize) -> usize {
+    let mut taken = 0;
+    for _ in 0..words {
+        if taken < memory.len() {
+            taken += first_takes(&memory[taken..]);
+        }
+    }
+    taken
+}
+
+/// A word as it is written: "writers put it in only for numbers of 2^28 or more".
+pub fn written(kind: u32, number: u32) -> Vec<u32> {
+    let low = kind << 28 | number % (1 << 28);
+    if number < 1 << 28 {
+        vec![low]
+    } else {
+        vec![TOP << 28 | number >> 28, low]
+    }
+}
+
+/// "For question 8 a multiplier, and an entry that the reason tool shows, counts two words when m is above 2^28."
+pub fn counted(m: u32) -> usize {
+    if m > 1 << 28 {
+        2
+    } else {
+        1
+    }
 }

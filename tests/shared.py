@@ -1,5 +1,5 @@
 """The package's shared library, called from Python: a fresh sheet, each call on it, refusals that keep every byte, numbers with a
-sign, claims that are long, equations with a modulus of their own, threads that share a sheet, the version.
+sign, claims that are long, equations with a modulus of their own, threads that share a sheet, numbers of two words, the version.
 
 usage: tests/shared.py LIBRARY HEADER
 """
@@ -32,15 +32,32 @@ for name, arguments in {
     function.restype = ctypes.c_int64
 
 MODULUS, UNKNOWNS, COEFFICIENT, RIGHT, HEAD, ENTRY, MULTIPLIER = range(1, 8)
-MINUS_COEFFICIENT, MINUS_RIGHT, OWN_MODULUS = 10, 11, 12
+MINUS_COEFFICIENT, MINUS_RIGHT, OWN_MODULUS, TOP = 10, 11, 12, 13
 
 library.milebadger_congruence.argtypes = [ctypes.c_int32, ctypes.c_int32, ctypes.c_uint32, Words, ctypes.c_size_t]
 library.milebadger_congruence.restype = ctypes.c_int64
 
 
 def words(*pairs):
-    """Memory with a word for each kind and number."""
-    return (ctypes.c_uint32 * len(pairs))(*(kind << 28 | number for kind, number in pairs))
+    """Memory with a word for each kind and number, and one of kind 13 in front of it where the number takes more than 28 bits."""
+    places = []
+    for kind, number in pairs:
+        if number >> 28:
+            places.append(TOP << 28 | number >> 28)
+        places.append(kind << 28 | number & 0xFFFFFFF)
+    return (ctypes.c_uint32 * len(places))(*places)
+
+
+def numbers_in(places):
+    """The kinds and numbers of words."""
+    pairs, top = [], 0
+    for place in places:
+        if place >> 28 == TOP:
+            top = place & 15
+        else:
+            pairs.append((place >> 28, top << 28 | place & 0xFFFFFFF))
+            top = 0
+    return pairs
 
 
 def equation(*numbers):
@@ -51,7 +68,8 @@ def equation(*numbers):
 
 def own(q, *numbers):
     """An equation with a modulus of its own."""
-    return (ctypes.c_uint32 * (len(numbers) + 1))(OWN_MODULUS << 28 | q, *equation(*numbers))
+    both = [*words((OWN_MODULUS, q)), *equation(*numbers)]
+    return (ctypes.c_uint32 * len(both))(*both)
 
 
 def text(typed):
@@ -93,7 +111,10 @@ refused(-4, "strike", 0)
 refused(-4, "add_text", *text(b"x1 = 0"))
 refused(-4, "class", words((HEAD, 0)), 1, (ctypes.c_uint8 * 1)(0xC0), 1)
 refused(-4, "reason", words((HEAD, 0)), 1, (ctypes.c_uint32 * 3)(7, 7, 7), 3, out, 273)
-refused(-2, "open", words((MODULUS, 65536), (UNKNOWNS, 2)), 2)
+refused(-2, "open", words((MODULUS, 1), (UNKNOWNS, 2)), 2)
+refused(-17, "open", words((TOP, 1), (UNKNOWNS, 2)), 2)
+refused(-17, "open", words((MODULUS, 4), (UNKNOWNS, 2), (TOP, 1)), 3)
+refused(-4, "add", words((TOP, 1)), 1)
 same(lend("open", words((MODULUS, 4), (UNKNOWNS, 2))), 0)
 refused(-7, "strike", 0)
 refused(-7, "strike", 1)
@@ -272,5 +293,50 @@ for (a, b, m), solution in {
     same(pair[:], [solution, m])
 same(library.milebadger_congruence(-4, 6, 12, pair, 2), 0)
 same(library.milebadger_congruence(-4, 8, 12, pair, 1), -8)
-same(library.milebadger_congruence(-4, 8, 65536, pair, 2), -2)
+same(library.milebadger_congruence(-4, 8, 1, pair, 2), -2)
 same(pair[:], [1, 2])
+for (a, b, m), solutions in {
+    (5, 1, 65536): [52429, 65536],
+    (-1, 1, 4294967295): [4294967294, 4294967295],
+    (3, 6, 4294967295): [2, 1431655765],
+    (2, 1, 4294967291): [2147483646, 4294967291],
+}.items():
+    same(library.milebadger_congruence(a, b, m, pair, 2), 1)
+    same(pair[:], solutions)
+
+# Moduli of 32 bits. x + y = -1 mod the largest: from 0 4294967294, with the step 1 4294967294.
+largest = 4294967295
+for modulus in [65536, largest]:
+    sheet = Sheet()
+    opening = words((MODULUS, modulus), (UNKNOWNS, 2))
+    same(lend("open", opening), 0)
+same(len(opening), 3)
+refused(-17, "add", words((COEFFICIENT, 1), (TOP, 0), (COEFFICIENT, 1), (RIGHT, 1)), 4)
+same(lend("add", equation(1, -4294967294, -1)), 1)
+out = (ctypes.c_uint32 * 545)(*([0xC0DEC0DE] * 545))
+refused(-8, "answer", out, 6)
+same(lend("answer", out), 7)
+same(numbers_in(out[:7]), [(HEAD, 2), (ENTRY, 0), (ENTRY, largest - 1), (ENTRY, 1), (ENTRY, largest - 1)])
+same(out[7:], [0xC0DEC0DE] * 538)
+same(call("mark", out, 7), 1)
+same(lend("mark", block(2, 0, largest - 1, largest - 1, 1)), 1)
+same(lend("mark", block(1, 0, largest - 1)), 0)
+refused(-6, "mark", block(1, 0, largest), 4)
+refused(-17, "mark", words((HEAD, 1), (ENTRY, 0), (TOP, 1)), 3)
+# a class: a claim of two words in a head's place, a word of kind 13 there that is none, and a claim with one
+marks = (ctypes.c_uint8 * 5)(*[0xC0] * 5)
+claims = words((ENTRY, 1 << 28), (TOP, 1), (HEAD, 1), (ENTRY, 0), (TOP, 16), (HEAD, 0))
+same((call("class", claims, len(claims), marks, 5), marks[:]), (4, [101, 117, 117, 0, 0xC0]))
+# what a reason shows counts two words for each entry, though fewer are written
+at, shown = (ctypes.c_uint32 * 3)(7, 7, 7), (ctypes.c_uint32 * 4)(8, 8, 8, 8)
+refused(-8, "reason", block(0), 1, at, 3, shown, 3)
+same(call("reason", block(0), 1, at, 3, shown, 4), 1)
+same((at[:], numbers_in(shown[:3]), shown[3]), ([0, 0, 3], [(ENTRY, 0), (ENTRY, largest - 1)], 8))
+# and so do multipliers: 3x = 1 has none mod a multiple of 3
+sheet = Sheet()
+same(lend("open", words((MODULUS, largest), (UNKNOWNS, 1))), 0)
+same(lend("add", equation(3, 1)), 1)
+refused(-8, "answer", out, 2)
+count = call("answer", out, 3)
+[(kind, head), (shown_kind, multiplier)] = numbers_in(out[:count])
+same((kind, head, shown_kind, 3 * multiplier % largest, multiplier % largest == 0), (HEAD, 0, MULTIPLIER, 0, False))

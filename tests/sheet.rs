@@ -86,6 +86,7 @@ fn read(act: &Act, result: i64) -> Option<Outcome> {
     match (act, result) {
         (_, -8..=-1) | (Act::AddText(_), -13..=-11) => Some(Outcome::Refused(-result as u32)),
         (Act::Class(..), -14) | (Act::Add(_), -15) | (Act::Strike(_), -16) => Some(Outcome::Refused(-result as u32)),
+        (Act::Open(_) | Act::Add(_) | Act::Mark(_) | Act::MarkBlock | Act::Reason(..), -17) => Some(Outcome::Refused(17)),
         (Act::Open(_), 0) => Some(Outcome::Holds(0)),
         (Act::Add(_) | Act::AddText(_) | Act::Strike(_), 0..=16) => Some(Outcome::Holds(result as usize)),
         (Act::Answer(buffer), 1..) if result <= buffer.len() as i64 => Some(Outcome::Wrote(result as usize)),
@@ -110,9 +111,15 @@ impl Lent<u32> {
         Lent::new(GUARD, numbers)
     }
 
-    /// Beside the claims of a class, or one claim, there are entries, with which the last one would be whole where it breaks off.
+    /// Beside the claims of a class, or one claim, there are entries, with which the last one would be whole where it breaks off, and a
+    /// word of kind 13 behind all would be good.
     fn claims(words: &[u32]) -> Lent<u32> {
         Lent::new(6 << 28, words)
+    }
+
+    /// Beside an equation there are right sides, and beside an opening unknowns, for the same reason.
+    fn words(act: &Act, words: &[u32]) -> Lent<u32> {
+        Lent::new(if matches!(act, Act::Add(_)) { 4 << 28 } else { 2 << 28 | 1 }, words)
     }
 
     /// A reason's `at` and its buffer.
@@ -185,8 +192,9 @@ impl Desk {
     pub fn act(&mut self, act: &Act) -> Result<Reply, String> {
         let before = self.sheet.clone();
         let mut lent = match act {
-            Act::Open(words) | Act::Add(words) | Act::Mark(words) | Act::Answer(words) => Lent::numbers(words),
-            Act::Class(words, _) | Act::Reason(words, ..) => Lent::claims(words),
+            Act::Answer(words) => Lent::numbers(words),
+            Act::Open(words) | Act::Add(words) => Lent::words(act, words),
+            Act::Mark(words) | Act::Class(words, _) | Act::Reason(words, ..) => Lent::claims(words),
             Act::AddText(_) | Act::Strike(_) => Lent::numbers(&[]),
             Act::MarkBlock => std::mem::replace(&mut self.buffer, Lent::numbers(&[])),
         };

@@ -12,10 +12,10 @@ mod shown;
 mod spelling;
 
 use acts::{add, add_own, add_text, all_refusals, answer, class, entering, mark, open, random_act, random_system, reason, step};
-use acts::{place, Tally, FAR_PLACES};
+use acts::{place, Tally, FAR_PLACES, WIDE};
 use exercises::{chance, pick};
-use face::LONGEST_BLOCK;
-use ledger::{number, Ledger};
+use face::LONGEST_WORDS;
+use ledger::{Ledger, LARGEST};
 use random::Random;
 use reference::System;
 use sheet::{Act, Desk, Outcome, NUMBERS};
@@ -46,7 +46,7 @@ fn faults(numbers: &[u32]) -> Vec<&'static str> {
     let (m, n, k) = (numbers[MODULUS], numbers[UNKNOWNS], numbers[HELD]);
     let held: Vec<(u32, &[u32])> = if n <= 16 && k <= 16 { lines(numbers).collect() } else { vec![] };
     let all = [
-        ("modulus", !(2..=65_535).contains(&m)),
+        ("modulus", !reference::is_modulus(m)),
         ("unknowns", !(1..=16).contains(&n)),
         ("held", k > 16),
         ("own modulus", held.iter().any(|&(q, _)| !ledger::is_own_modulus(m, q))),
@@ -103,7 +103,10 @@ fn after(numbers: &[u32], act: &Act, outcome: Outcome) -> Vec<u32> {
     let mut numbers = numbers.to_vec();
     match (act, outcome) {
         (_, Outcome::Refused(_)) => {}
-        (Act::Open(words), _) => numbers = opened(number(words[0]), number(words[1])),
+        (Act::Open(words), _) => {
+            let words = ledger::joined(words);
+            numbers = opened(words[0].number, words[1].number);
+        }
         (Act::Add(words), _) => {
             // "Its numbers become residues mod q"
             let (q, behind) = ledger::parted(numbers[MODULUS], words);
@@ -140,24 +143,26 @@ fn expect_each(random: &mut Random, numbers: &[u32], tally: &mut Tally) {
     let unopened = System::empty(7, 2);
     let system = if let Ledger::Opened(system) = reading(numbers) { system } else { unopened };
     let (ones, plus) = (vec![1; system.n], vec![1; system.n]);
-    let minus = vec![-(system.m as i64) - 1; system.n];
+    let more = (system.m as i64 + 1).min(LARGEST);
+    let minus = vec![-more; system.n];
     let (claims, stray) = (exercises::class(random, &system), [exercises::stray(random)]);
     let (one, some) = (ledger::claim(&[ones.clone()]), exercises::claim(random, &system));
     let (m, own) = (system.m, exercises::divisor(random, system.m));
+    let (loose, behind) = (exercises::bad_top(random), exercises::top(random));
     for act in [
         open(5, 3),
         open(1, 1),
         Act::Open(vec![]),
         add(&[&plus[..], &[0]].concat()),
         add(&[&plus[..], &[system.m as i64]].concat()),
-        add(&[&minus[..], &[-ledger::LARGEST]].concat()),
+        add(&[&minus[..], &[-LARGEST]].concat()),
         add(&plus),
         add(&minus),
-        add_own(own, &[&minus[..], &[m as i64 + 1]].concat()),
+        add_own(own, &[&minus[..], &[more]].concat()),
         add_own(m, &[&plus[..], &[0]].concat()),
-        add_own(m + 1, &[&plus[..], &[0]].concat()),
-        add_own(pick(random, &[0, 1, 2 * m]), &[&plus[..], &[0]].concat()),
-        add_own(m + 1, &plus),
+        add_own(more as u32, &[&plus[..], &[0]].concat()),
+        add_own(pick(random, &[0, 1, m.saturating_mul(2)]), &[&plus[..], &[0]].concat()),
+        add_own(more as u32, &plus),
         add_own(own, &minus),
         add_text("2 * (x1 - 3) = 1"),
         add_text("2 (x1 - 3) = 1"),
@@ -168,7 +173,7 @@ fn expect_each(random: &mut Random, numbers: &[u32], tally: &mut Tally) {
         Act::Strike(1),
         Act::Strike(place(random, system.equations.len())),
         Act::Strike(pick(random, &FAR_PLACES)),
-        answer(LONGEST_BLOCK),
+        answer(LONGEST_WORDS),
         answer(0),
         mark(&[]),
         mark(&[ones.clone()]),
@@ -179,16 +184,26 @@ fn expect_each(random: &mut Random, numbers: &[u32], tally: &mut Tally) {
         class(random, &stray.repeat(64), 64),
         class(random, &stray.repeat(64), 63),
         class(random, &stray.repeat(65), 63),
-        reason(&[], 3, 16),
+        class(random, &[&[loose], &claims[..]].concat(), 64),
+        reason(&[], 3, 32),
+        reason(&ledger::claim(&[]), 3, 32),
         reason(&ledger::claim(&[]), 3, 16),
         reason(&ledger::claim(&[]), 3, 0),
-        reason(&ledger::claim(&[]), 2, 16),
-        reason(&one, 4, 17),
+        reason(&ledger::claim(&[]), 2, 32),
+        reason(&one, 4, 33),
+        reason(&one, 3, 31),
         reason(&one, 3, 0),
         reason(&one, 0, 0),
-        reason(&ledger::claim(&vec![vec![system.m; system.n]; 2]), 3, 16),
-        reason(&ledger::claim(&vec![vec![0; system.n]; 18]), 3, 16),
-        reason(&some, 3, 16),
+        reason(&ledger::claim(&vec![vec![system.m; system.n]; 2]), 3, 32),
+        reason(&ledger::claim(&vec![vec![0; system.n]; 18]), 3, 32),
+        reason(&some, 3, 32),
+        // a word of kind 13 that is none in any place, and one that is none behind all
+        Act::Open([&[loose], &ledger::opening(5, 3)[..]].concat()),
+        Act::Open([&ledger::opening(5, 3)[..], &[behind]].concat()),
+        Act::Add([&ledger::equation(&[&plus[..], &[0]].concat())[..], &[behind]].concat()),
+        Act::Mark([&[loose], &some[..]].concat()),
+        Act::Mark([&one[..], &[behind]].concat()),
+        reason(&[&one[..], &[behind]].concat(), 3, 32),
     ] {
         expect(&mut Desk::with(numbers), &act, random.seed, tally);
     }
@@ -218,9 +233,13 @@ fn part(m: u32) -> Option<u32> {
     (2..=5).find(|&q| q < m && m % q == 0)
 }
 
-/// Multiplies the modulus, so that it is just too large, and of each line its modulus or its cells: all other limits are kept.
+/// Multiplies the modulus, and of each line its modulus or its cells, so that there is no fault: up to 2^28 or beyond it, or up to the
+/// largest.
 fn grow(random: &mut Random, numbers: &mut [u32]) {
-    let (width, factor) = (numbers[UNKNOWNS] as usize + 1, 65_535 / numbers[MODULUS] + 1);
+    let (m, width) = (numbers[MODULUS], numbers[UNKNOWNS] as usize + 1);
+    let most = u32::MAX / m;
+    let any = 1 + random.below(most as u64) as u32;
+    let factor = pick(random, &[most, most, (1 << 28) / m, (1 << 28) / m + 1, any]).clamp(1, most);
     numbers[MODULUS] *= factor;
     for place in 0..numbers[HELD] as usize {
         match random.below(2) {
@@ -235,7 +254,7 @@ fn grow(random: &mut Random, numbers: &mut [u32]) {
 fn disturb_modulus(random: &mut Random, numbers: &mut [u32], place: usize) {
     let (m, width, any) = (numbers[MODULUS], numbers[UNKNOWNS] as usize + 1, random.bits() as u32);
     let divisor = exercises::divisor(random, m);
-    let q = pick(random, &[0, 1, 2, m - 1, m + 1, 2 * m, divisor, m / divisor, u32::MAX, any]);
+    let q = pick(random, &[0, 1, 2, m - 1, m.wrapping_add(1), m.wrapping_mul(2), divisor, m / divisor, u32::MAX, any]);
     numbers[MODULI + place] = q;
     if chance(random, 2) {
         let times = m / q.max(1);
@@ -247,7 +266,8 @@ fn disturb_modulus(random: &mut Random, numbers: &mut [u32], place: usize) {
 fn disturb_cell(random: &mut Random, numbers: &mut [u32], place: usize) {
     let (m, width) = (numbers[MODULUS], numbers[UNKNOWNS] as usize + 1);
     let (q, times) = (numbers[MODULI + place], m / numbers[MODULI + place]);
-    let values = [m - 1, m, m, m + 1, m + times, m - times, m - times + 1, times, times - 1, times + 1, q, q - 1, 65_536, u32::MAX];
+    let (above, beyond) = (m.wrapping_add(1), m.wrapping_add(times));
+    let values = [m - 1, m, m, above, beyond, m - times, m - times + 1, times, times - 1, times + 1, q, q - 1, 65_536, u32::MAX];
     numbers[CELLS + place * width + random.below(width as u64) as usize] = pick(random, &values);
 }
 
@@ -285,7 +305,8 @@ fn disturb(random: &mut Random, numbers: &mut [u32]) {
     let good = faults(numbers).is_empty();
     let held = if good { numbers[HELD] as usize } else { 0 };
     let place = random.below(held.max(1) as u64) as usize;
-    match random.below(22) {
+    match random.below(24) {
+        22 => (numbers[MODULUS], numbers[HELD]) = (pick(random, &[0, 1]), 0),
         0..=1 if good => grow(random, numbers),
         0..=2 => numbers[MODULUS] = pick(random, &[0, 1, 2, 3, m.wrapping_mul(2), 65_535, 65_536, 65_537, u32::MAX, any]),
         3..=4 => numbers[UNKNOWNS] = pick(random, &[0, 1, 2, 15, 16, 17, 255, (1 << 31) - 1, u32::MAX, any]),
@@ -301,7 +322,8 @@ fn disturb(random: &mut Random, numbers: &mut [u32]) {
 /// one or two numbers are disturbed.
 fn plausible(random: &mut Random) -> Vec<u32> {
     let (m, n) = if chance(random, 8) {
-        (pick(random, &[2, 12, 32_768, 65_521, 65_535]), pick(random, &[1, 8, 15, 16]))
+        let wide = pick(random, &WIDE);
+        (pick(random, &[2, 12, 32_768, 65_521, 65_535, wide, wide]), pick(random, &[1, 8, 15, 16]))
     } else {
         exercises::small_shape(random)
     };
@@ -340,7 +362,9 @@ fn made(random: &mut Random) -> Vec<u32> {
 #[test]
 fn zeroed_memory_is_an_unopened_sheet() {
     let mut tally = Tally::new();
+    let tops = [0, 1].map(|number| vec![ledger::word(ledger::TOP, number)]);
     let words = [vec![], ledger::opening(2, 1), ledger::equation(&[1, 1]), ledger::claim(&[]), ledger::claim(&[vec![0]])];
+    let words = [&words[..], &tops].concat();
     let acts = words.iter().flat_map(|words| [Act::Add(words.clone()), Act::Mark(words.clone())]);
     let texts = ["x1 = 1", "1 = 1", "", "=", "x1*x1 = 0", "x16 = 0"].map(add_text);
     let strikes = FAR_PLACES.iter().chain(&[0, 1, 16]).map(|&place| Act::Strike(place));
@@ -350,9 +374,9 @@ fn zeroed_memory_is_an_unopened_sheet() {
         Act::Class(ledger::claim(&[]).repeat(count), marks(count / 2))
     }));
     // nor are the shape and the entries of a claim asked about, nor the lengths of what a reason would write
-    let lengths = [(0, 0), (2, 16), (3, 0), (3, 16), (4, 17)];
+    let lengths = [(0, 0), (2, 32), (3, 0), (3, 32), (4, 33)];
     let reasons = words.iter().flat_map(|words| lengths.map(|(at, out)| reason(words, at, out)));
-    let others = [0, 1, 2, LONGEST_BLOCK].map(answer).into_iter().chain([Act::MarkBlock]).chain(classes).chain(reasons);
+    let others = [0, 1, 2, LONGEST_WORDS].map(answer).into_iter().chain([Act::MarkBlock]).chain(classes).chain(reasons);
     for act in acts.chain(texts).chain(strikes).chain(others) {
         let mut desk = Desk::fresh();
         assert_eq!(expect(&mut desk, &act, 0, &mut tally), Outcome::Refused(4), "{act:x?}");
@@ -364,7 +388,7 @@ fn zeroed_memory_is_an_unopened_sheet() {
 fn an_opening_makes_the_same_sheet_of_any_numbers() {
     let mut random = Random::new();
     for round in 0..300 {
-        let (m, n) = (2 + random.below(65_534) as u32, 1 + random.below(16) as u32);
+        let (m, n) = (random.any_length().max(2), 1 + random.below(16) as u32);
         let mut desk = match round % 3 {
             0 => Desk::fresh(),
             1 => Desk::with(&(0..NUMBERS).map(|_| random.bits() as u32).collect::<Vec<u32>>()),
@@ -373,7 +397,7 @@ fn an_opening_makes_the_same_sheet_of_any_numbers() {
         assert_eq!(expect(&mut desk, &open(m, n), random.seed, &mut Tally::new()), Outcome::Holds(0));
         assert_eq!(desk.numbers(), opened(m, n), "seed {}", random.seed);
         // "without equations": zeros, and the unit vectors as steps
-        expect(&mut desk, &answer(LONGEST_BLOCK), random.seed, &mut Tally::new());
+        expect(&mut desk, &answer(LONGEST_WORDS), random.seed, &mut Tally::new());
         let vectors = (0..=n).map(|i| (1..=n).map(|j| (i == j) as u32).collect()).collect::<Vec<Vec<u32>>>();
         assert_eq!(desk.block(), ledger::claim(&vectors), "{m} {n} (seed {})", random.seed);
     }
@@ -455,7 +479,7 @@ fn the_limits_of_each_number_decide_whether_a_sheet_is_opened() {
         }
         sheets.push(numbers);
     };
-    for m in [0, 1, 2, 65_535, 65_536, u32::MAX] {
+    for m in [0, 1, 2, 65_536, u32::MAX] {
         for n in [0, 1, 16, 17, (1 << 31) - 1, u32::MAX] {
             for k in [0, 1, 15, 16, 17, 1 << 28, 1 << 31, u32::MAX] {
                 add(m, n, k, m);
@@ -482,7 +506,7 @@ fn every_line_of_two_numbers_is_read_by_its_modulus() {
         }
     }
     for numbers in &sheets {
-        for act in [answer(LONGEST_BLOCK), mark(&[]), add_own(2, &[1, 1]), Act::Strike(0), Act::Strike(1), Act::Strike(2)] {
+        for act in [answer(LONGEST_WORDS), mark(&[]), add_own(2, &[1, 1]), Act::Strike(0), Act::Strike(1), Act::Strike(2)] {
             expect(&mut Desk::with(numbers), &act, 0, &mut tally);
         }
     }

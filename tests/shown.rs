@@ -75,16 +75,18 @@ pub fn wrong(
     out: &[u32],
     reply: &Reply,
 ) -> Option<String> {
-    let ([number, step, equation], count) = reason.map_or(([0; 3], 0), |reason| (reason.numbers(), reason.words(system)));
+    let ([number, step, equation], room) = reason.map_or(([0; 3], 0), |reason| (reason.numbers(), reason.room(system)));
     let say = |what: &str| Some(format!("{what}: {reply:x?} for {reason:?} of {vectors:?}, with {at:x?} and {out:x?} before"));
-    if at.len() < 3 || out.len() < count {
+    if at.len() < 3 || out.len() < room {
         let good = Reply { outcome: Outcome::Refused(8), buffer: out.to_vec(), marks: vec![], at: at.to_vec() };
         return if *reply == good { None } else { say("not refused as it should be") };
     }
     if reply.outcome != Outcome::Reason(number) {
         return say("another result");
     }
-    if reply.at != [&[step, equation, count as u32], &at[3..]].concat() {
+    // "Writers put it in only for numbers of 2^28 or more": fewer words may be written than are asked for
+    let count = reply.at[2] as usize;
+    if count > room || reply.at != [&[step, equation, count as u32], &at[3..]].concat() {
         return say("another step, equation or number of words, or something behind them");
     }
     if reply.buffer.len() != out.len() || reply.buffer[count..] != out[count..] {
@@ -99,8 +101,11 @@ pub fn wrong(
 /// Whether the words show the reason: "a solution", "multipliers", "a solution that the claim does not describe", or nothing. The
 /// first is free too, but the header names it: the starting vector of the answer.
 fn is_shown(system: &System, vectors: &[Vec<u32>], reason: Reason, words: &[u32]) -> bool {
-    let numbers: Vec<u32> = words.iter().map(|&word| ledger::number(word)).collect();
-    let all = |kind: u32| words.iter().all(|&word| ledger::kind(word) == kind) && numbers.iter().all(|&x| x < system.m);
+    let numbers: Vec<u32> = ledger::joined(words).iter().map(|word| word.number).collect();
+    let all = |kind: u32| {
+        let written: Vec<u32> = numbers.iter().flat_map(|&x| ledger::written(kind, x)).collect();
+        words == written && numbers.len() == reason.shown(system) && numbers.iter().all(|&x| x < system.m)
+    };
     let few = ledger::can_try(system.m, system.n);
     match reason {
         Reason::Solvable if few => all(ENTRY) && ledger::solutions(system).first() == Some(&numbers),

@@ -13,19 +13,19 @@ mod spelling;
 
 use acts::{add, add_own, answer, answered, entered, expect, full_size_system, last, open, outcomes, Tally, FAR_PLACES};
 use exercises::{chance, pick};
-use face::LONGEST_BLOCK;
+use face::LONGEST_WORDS;
 use random::Random;
 use reference::{Line, System};
 use sheet::{Act, Desk, Outcome, Reply};
 
 /// The numbers of the answer block after these calls, which do what the reference says.
 fn answer_after(acts: &[Act]) -> Vec<u32> {
-    answered(expect(&[acts, &[answer(LONGEST_BLOCK)]].concat(), 0, &mut Tally::new()).last().unwrap())
+    answered(expect(&[acts, &[answer(LONGEST_WORDS)]].concat(), 0, &mut Tally::new()).last().unwrap())
 }
 
 /// The answer to these equations on a sheet on which no others ever were.
 fn answer_of(system: &System) -> Reply {
-    entered(system).act(&answer(LONGEST_BLOCK)).unwrap()
+    entered(system).act(&answer(LONGEST_WORDS)).unwrap()
 }
 
 /// A line in n unknowns, with a modulus of its own in half of the cases.
@@ -52,7 +52,7 @@ fn strike(desk: &mut Desk, system: &mut System, place: usize, seed: u64) {
     let before = system.clone();
     *system = left(&before, place);
     assert_eq!(desk.act(&Act::Strike(place as u32)).unwrap().outcome, Outcome::Holds(system.equations.len()), "{place} of {before:?} (seed {seed})");
-    assert_eq!(desk.act(&answer(LONGEST_BLOCK)).unwrap(), answer_of(system), "{place} of {before:?} (seed {seed})");
+    assert_eq!(desk.act(&answer(LONGEST_WORDS)).unwrap(), answer_of(system), "{place} of {before:?} (seed {seed})");
 }
 
 #[test]
@@ -139,7 +139,7 @@ fn every_place_of_every_number_of_lines() {
                     (_, true) => (Outcome::Holds(count - 1), left(&system, place)),
                 };
                 assert_eq!(desk.act(&strike).unwrap().outcome, outcome, "{place} of {system:?} (seed {})", random.seed);
-                let reply = acts::replied(&mut desk, &then, &answer(LONGEST_BLOCK), random.seed);
+                let reply = acts::replied(&mut desk, &then, &answer(LONGEST_WORDS), random.seed);
                 assert_eq!(reply, answer_of(&then), "{place} of {system:?} (seed {})", random.seed);
             }
         }
@@ -180,7 +180,7 @@ fn adds_and_strikes(random: &mut Random, m: u32, n: u32) -> (Vec<Act>, Vec<Syste
                 system = left(&system, place);
             }
         }
-        acts.push(answer(LONGEST_BLOCK));
+        acts.push(answer(LONGEST_WORDS));
         lists.push(system.clone());
     }
     (acts, lists)
@@ -216,6 +216,6 @@ fn a_full_sheet_has_room_again_behind_its_lines() {
         assert_eq!(desk.act(&adding).unwrap().outcome, Outcome::Holds(16));
         assert_eq!(desk.act(&adding).unwrap().outcome, Outcome::Refused(5));
         system.equations.push(line);
-        assert_eq!(desk.act(&answer(LONGEST_BLOCK)).unwrap(), answer_of(&system), "{system:?} (seed {})", random.seed);
+        assert_eq!(desk.act(&answer(LONGEST_WORDS)).unwrap(), answer_of(&system), "{system:?} (seed {})", random.seed);
     }
 }

@@ -1,7 +1,7 @@
 //! The paper's tape and its lines once more in plain Rust, over the ledger beside it.
 #![allow(dead_code)]
 
-use crate::ledger::{self, kind, number, word, Call, Ledger, Said, Solved};
+use crate::ledger::{self, number, word, Call, Ledger, Said, Solved};
 use crate::ledger::{ANSWER, COEFFICIENT, HEAD, MINUS_COEFFICIENT, MODULUS, OWN_MODULUS, STRIKE};
 
 /// The most bytes that a tape may have.
@@ -19,10 +19,11 @@ pub fn words(tape: &[u8]) -> Vec<u32> {
 
 /// "The first word's kind picks the call: 1 takes 2 words, 3 takes n+1, 5 takes 1 + n times its number; all other kinds take one,
 /// as do 3 and 5 when unopened and 5 with a number above 17. If fewer remain, all of them." And "a first word of kind 10 begins an
-/// add of n+1 words as kind 3 does"; one of kind 12 "begins its add, which then takes n+2 words, or one when unopened". The call, and
-/// how many words it takes.
-pub fn first_call(ledger: &Ledger, words: &[u32]) -> (Call, usize) {
-    let (kind, number) = (kind(words[0]), number(words[0]));
+/// add of n+1 words as kind 3 does"; one of kind 12 "begins its add, which then takes n+2 words, or one when unopened". "A call that
+/// starts with a good kind 13 word is picked by the word after it"; one that breaks the rule "is a call of one word". The call, and
+/// how much of the memory it takes.
+pub fn first_call(ledger: &Ledger, memory: &[u32]) -> (Call, usize) {
+    let ledger::Word { kind, number } = ledger::first(memory);
     let wanted = match (kind, ledger) {
         (MODULUS, _) => 2,
         (COEFFICIENT | MINUS_COEFFICIENT, Ledger::Opened(system)) => system.n + 1,
@@ -30,15 +31,15 @@ pub fn first_call(ledger: &Ledger, words: &[u32]) -> (Call, usize) {
         (HEAD, Ledger::Opened(system)) if number <= 17 => 1 + system.n * number as usize,
         _ => 1,
     };
-    let used = wanted.min(words.len());
-    let own = words[..used].to_vec();
+    let used = ledger::front(memory, wanted);
+    let own = memory[..used].to_vec();
     let call = match kind {
         MODULUS => Call::Open(own),
         COEFFICIENT | MINUS_COEFFICIENT | OWN_MODULUS => Call::Add(own),
         HEAD => Call::Mark(own),
         STRIKE => Call::Strike(number),
-        ANSWER => Call::AnswerFromTape(words[0]),
-        _ => Call::Meaningless(words[0]),
+        ANSWER => Call::AnswerFromTape(memory[0]),
+        _ => Call::Meaningless(own),
     };
     (call, used)
 }
@@ -126,7 +127,7 @@ fn printed_by(call: &Call, said: &Said, before: &Ledger, text: &str) -> Option<u
     match (said, call) {
         (Said::SomeMark, Call::Mark(words)) => {
             // a claim without steps has none that is superfluous
-            let long = first == "long\n" && number(words[0]) > 1;
+            let long = first == "long\n" && ledger::first(words).number > 1;
             (first == "pass\n" || first == "fail\n" || long).then_some(first.len())
         }
         (Said::Answered(Solved::Nothing), _) => system.refuted_by(&read_line("none", first)?).then_some(first.len()),
@@ -151,8 +152,8 @@ pub const PAPER_TAPE: [u32; 20] = [
 ];
 pub const PAPER_LINES: &str = "open 2 2\nadded 1\nfrom 0 1\nstep 1 1\nadded 2\nnone 1 1\nstruck 1\nfail\npass\nrefused 1\n";
 
-/// The kinds with which no call begins.
-pub const MEANINGLESS: [u32; 9] = [0, 2, 4, 6, 7, 11, 13, 14, 15];
+/// The kinds with which no call begins; a word of kind 13 that breaks the rule is refused with another number.
+pub const MEANINGLESS: [u32; 8] = [0, 2, 4, 6, 7, 11, 14, 15];
 
 /// Tapes that are easily misread, with their lines.
 pub fn readings() -> Vec<(Vec<u32>, String)> {
@@ -162,8 +163,8 @@ pub fn readings() -> Vec<(Vec<u32>, String)> {
         // whatever its number, a word of a call on an unopened sheet says 4
         (vec![0x3000_0001, 0x5000_0001, 0x8000_0001, 0x9000_0001, 0x8000_0000, 0x9000_0000], "refused 4\n".repeat(6)),
         // words without meaning, and a minus right side, say 1, opened or not
-        (meaningless.clone(), "refused 1\n".repeat(9)),
-        (opened(&meaningless), "open 3 2\n".to_string() + &"refused 1\n".repeat(9)),
+        (meaningless.clone(), "refused 1\n".repeat(8)),
+        (opened(&meaningless), "open 3 2\n".to_string() + &"refused 1\n".repeat(8)),
         // a call's length does not look at the kinds of the later words
         (opened(&[0x3000_0001, 0x9000_0000, 0x4000_0000]), "open 3 2\nrefused 1\n".to_string()),
         // a call that is cut off is one call
@@ -241,6 +242,92 @@ pub const SIGNED: [(u32, [u32; 2], &str); 17] = [
     (65_535, [0xAFFF_FFFF, 0x4000_0FFF], "from 4368\nstep 4369\n"),
     (65_535, [0xAFFF_FFFF, 0x4000_F000], "from 1\nstep 4369\n"),
 ];
+
+/// Tapes with words of kind 13, good ones and others, with their lines.
+pub fn wide_readings() -> Vec<(Vec<u32>, String)> {
+    let opened = |words: &[u32]| [&ledger::opening(3, 2), words].concat();
+    let after = |words: &[u32], lines: &str| (opened(words), format!("open 3 2\n{lines}"));
+    let either = |words: &[u32], lines: &str| [(words.to_vec(), lines.to_string()), after(words, lines)];
+    let alone = |words: &[u32], lines: &str| (words.to_vec(), lines.to_string());
+    let mut all = vec![
+        alone(&[0x1001_0000, 0x2000_0001], "open 65536 1\n"),
+        alone(&[0xD000_000F, 0x1FFF_FFFF, 0x2000_0001], "open 4294967295 1\n"),
+        alone(&[0xD000_0001, 0x1000_0000, 0x2000_0010], "open 268435456 16\n"),
+        alone(&[0x1FFF_FFFF, 0x2000_0001], "open 268435455 1\n"),
+        alone(&[0xD000_000F, 0x1FFF_FFFF, 0x2000_0011], "refused 3\n"),
+        alone(&[0xD000_000F, 0x1FFF_FFFF, 0x1000_0001], "refused 1\n"),
+        alone(&[0xD000_000F, 0x1FFF_FFFF], "refused 1\n"),
+        // the words of a call that is not opened are words of their own, and a good pair is one
+        (vec![0xD000_0001, 0x3000_0001, 0xD000_0001, 0xA000_0001, 0xD000_000F, 0xC000_0000], "refused 4\n".repeat(3)),
+        // one equation of three words in five places; 2^28 is 1 mod 3
+        after(&[0xD000_0001, 0x3000_0000, 0x3000_0001, 0xD000_000F, 0xBFFF_FFFF, 0x9000_0000], "added 1\nfrom 0 0\nstep 1 2\n"),
+        after(&[0xD000_0001, 0xA000_0000, 0x3000_0001, 0x4000_0001, 0x9000_0000], "added 1\nfrom 0 1\nstep 1 1\n"),
+        after(&[0xD000_0001, 0xC000_0003, 0x3000_0001, 0x3000_0001, 0x4000_0001], "refused 15\n"),
+        // a pair counts once, and what is cut short within is whole or not as the rule says
+        after(&[0x3000_0001, 0xD000_0001, 0x3000_0000, 0x8000_0000], "refused 1\n"),
+        after(&[0x3000_0001, 0xD000_0001, 0x3000_0000, 0x4000_0001, 0x8000_0000], "added 1\nstruck 0\n"),
+        after(&[0x3000_0001, 0x3000_0000, 0xD000_0001], "refused 17\n"),
+        after(&[0x3000_0001, 0xD000_0001], "refused 17\n"),
+        after(&[0xC000_0003, 0xD000_0001], "refused 17\n"),
+        after(&[0x5000_0001, 0xD000_0001], "refused 17\n"),
+        // a bad one is one of the words that the call takes
+        after(&[0x3000_0001, 0xD000_0000, 0x3000_0000, 0x4000_0001], "refused 17\nrefused 1\n"),
+        after(&[0x3000_0001, 0xD000_0010, 0x3000_0000, 0x4000_0001], "refused 17\nrefused 1\n"),
+        after(&[0x3000_0001, 0xD000_0001, 0xD000_0001, 0x3000_0000, 0x8000_0000], "refused 17\nrefused 7\n"),
+        after(&[0x3000_0001, 0x3000_0001, 0xD000_0001, 0x9000_0000], "refused 17\nfrom 0 0\nstep 1 0\nstep 0 1\n"),
+        after(&[0x5000_0001, 0xD000_0001, 0x5000_0000, 0x6000_0000], "refused 17\nrefused 1\n"),
+        after(&[0x5000_0001, 0x6000_0000, 0xD000_0001, 0x6000_0000], "refused 6\n"),
+        after(&[0x5000_0000, 0xD000_0001, 0x6000_0000], "fail\nrefused 1\n"),
+        after(&[0x5000_0012, 0xD000_0001, 0x6000_0000], "refused 1\nrefused 1\n"),
+        // an opening of two words, of which the second is bad: what follows is no part of it
+        alone(&[0x1000_0005, 0xD000_0001, 0x2000_0001], "refused 17\nrefused 1\n"),
+        alone(&[0x1000_0005, 0xD000_0001, 0x1000_0001, 0x2000_0001], "refused 1\nrefused 1\n"),
+        alone(&[0x1000_0005, 0xD000_0001], "refused 17\n"),
+    ];
+    // as first word it is a call of one word, opened or not: before kinds 2, 5, 8, 9, 13 and those without meaning, with 0 or above 15
+    all.extend(either(&[0xD000_0001], "refused 17\n"));
+    all.extend(either(&[0xD000_0001, 0x2000_0001], "refused 17\nrefused 1\n"));
+    all.extend(either(&[0xD000_0001, 0xE000_0000, 0xD000_000F, 0x0000_0000], "refused 17\nrefused 1\nrefused 17\nrefused 1\n"));
+    all.extend(either(&[0xD000_0000, 0x1000_0005, 0x2000_0001], "refused 17\nopen 5 1\n"));
+    all.extend(either(&[0xD000_0010, 0x1000_0005, 0x2000_0001], "refused 17\nopen 5 1\n"));
+    all.extend(either(&[0xDFFF_FFFF, 0x1000_0005, 0x2000_0001], "refused 17\nopen 5 1\n"));
+    all.extend(either(&[0xD000_0001, 0xD000_0001, 0x1000_0005, 0x2000_0001], "refused 17\nopen 268435461 1\n"));
+    all.push(alone(&[0xD000_0001, 0x5000_0000, 0xD000_0001, 0x8000_0000], "refused 17\nrefused 4\nrefused 17\nrefused 4\n"));
+    all.push(alone(&[0xD000_0001, 0x9000_0000], "refused 17\nrefused 4\n"));
+    all.push(after(&[0xD000_0001, 0x5000_0000, 0xD000_0001, 0x8000_0000], "refused 17\nfail\nrefused 17\nrefused 7\n"));
+    // a good pair with which no call begins
+    for kind in [4, 6, 7, 11] {
+        all.extend(either(&[0xD000_0001, kind << 28, kind << 28], "refused 1\nrefused 1\n"));
+    }
+    all
+}
+
+/// Equations in one unknown with large numbers, mod a large modulus, by the places of memory in which they lie, and the lines of their
+/// answer.
+pub const WIDE: [(u32, &[u32], &str); 14] = [
+    (65_536, &[0xA000_0001, 0x4000_0001], "from 65535\n"),
+    (65_536, &[0x3000_0002, 0x4000_0004], "from 2\nstep 32768\n"),
+    (65_536, &[0x3000_0001, 0xD000_000F, 0x4FFF_FFFF], "from 65535\n"),
+    (268_435_455, &[0xA000_0001, 0x4000_0001], "from 268435454\n"),
+    (268_435_456, &[0xA000_0001, 0x4000_0001], "from 268435455\n"),
+    (268_435_457, &[0xA000_0001, 0x4000_0001], "from 268435456\n"),
+    (268_435_457, &[0x3000_0001, 0xD000_0001, 0x4000_0001], "from 0\n"),
+    (4_294_967_295, &[0xA000_0001, 0x4000_0001], "from 4294967294\n"),
+    (4_294_967_295, &[0xD000_000F, 0x3FFF_FFFE, 0x4000_0001], "from 4294967294\n"),
+    (4_294_967_295, &[0xD000_000F, 0xAFFF_FFFF, 0x4000_0000], "from 0\nstep 1\n"),
+    // 3 times 1,431,655,765 is the modulus
+    (4_294_967_295, &[0x3000_0003, 0x4000_0006], "from 2\nstep 1431655765\n"),
+    (4_294_967_295, &[0xD000_0005, 0x3555_5555, 0xD000_000A, 0x4AAA_AAAA], "from 2\nstep 3\n"),
+    // 2 times 2,147,483,646 is 1 mod this prime
+    (4_294_967_291, &[0x3000_0002, 0x4000_0001], "from 2147483646\n"),
+    (4_294_967_291, &[0xD000_000F, 0xAFFF_FFFB, 0xD000_000F, 0xBFFF_FFFB], "from 0\nstep 1\n"),
+];
+
+/// Such a tape and all its lines.
+pub fn wide_tape(m: u32, equation: &[u32], answer: &str) -> (Vec<u32>, String) {
+    let words = [&ledger::opening(m, 1)[..], equation, &[word(ANSWER, 0)]].concat();
+    (words, format!("open {m} 1\nadded 1\n{answer}"))
+}
 
 /// Such a tape and all its lines.
 pub fn signed_tape(m: u32, equation: [u32; 2], answer: &str) -> (Vec<u32>, String) {

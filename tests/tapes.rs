@@ -13,7 +13,7 @@ use ledger::{Call, Ledger, Said};
 use random::Random;
 use reference::{Line, System};
 use std::collections::{BTreeMap, BTreeSet};
-use tape::{LONGEST_TAPE, PAPER_LINES, PAPER_TAPE, SIGNED};
+use tape::{LONGEST_TAPE, PAPER_LINES, PAPER_TAPE, SIGNED, WIDE};
 
 /// Which call was refused with which number; the tape's own refusals are those of "tape".
 type Tally = BTreeSet<(&'static str, u32)>;
@@ -95,6 +95,7 @@ fn exercise(random: &mut Random, calls: usize) -> Vec<u32> {
             3 => vec![ledger::word(pick(random, &[ledger::STRIKE, ledger::ANSWER]), boundary(random))],
             4..=7 => vec![ledger::word(ledger::ANSWER, 0)],
             8..=12 => exercises::claim(random, system),
+            13 if chance(random, 3) => exercises::stray_words(random),
             13 => vec![boundary_word(random)],
             _ => exercises::equation(random, system),
         };
@@ -116,12 +117,12 @@ fn boundary_word(random: &mut Random) -> u32 {
 
 /// "Questions, in order, and the number when the answer is no": every refusal that each call on tape can give.
 const REFUSALS: [(&str, &[u32]); 7] = [
-    ("open", &[1, 2, 3]),
-    ("add", &[4, 1, 15, 5]),
+    ("open", &[17, 1, 2, 3]),
+    ("add", &[4, 17, 1, 15, 5]),
     ("strike", &[4, 7, 16]),
     ("answer from tape", &[4, 1]),
-    ("mark", &[4, 1, 6]),
-    ("meaningless word", &[1]),
+    ("mark", &[4, 17, 1, 6]),
+    ("meaningless word", &[17, 1]),
     ("tape", &[9]),
 ];
 
@@ -137,12 +138,14 @@ fn the_tape_of_the_paper_prints_its_ten_lines() {
 #[test]
 fn exercises_print_their_lines_and_every_call_meets_its_refusals() {
     let mut random = Random::new();
-    let (mut tally, mut seen, mut signs, mut own) = (Tally::new(), BTreeMap::new(), 0, 0);
+    let (mut tally, mut seen, mut signs, mut own, mut wide) = (Tally::new(), BTreeMap::new(), 0, 0, 0);
     for round in 0..4_000 {
         let calls = 1 + random.below(40) as usize;
         let words = exercise(&mut random, calls);
-        signs += words.iter().filter(|&&word| ledger::whole(word) < 0).count();
-        own += words.iter().filter(|&&word| ledger::kind(word) == ledger::OWN_MODULUS).count();
+        let joined = ledger::joined(&words);
+        signs += joined.iter().filter(|&&word| ledger::whole(word) < 0).count();
+        own += joined.iter().filter(|word| word.kind == ledger::OWN_MODULUS).count();
+        wide += joined.iter().filter(|word| word.number > ledger::LARGEST_ALONE).count();
         let mut tape = tape::bytes(&words);
         if chance(&mut random, 3) {
             tape.truncate(random.below(tape.len() as u64 + 1) as usize);
@@ -157,6 +160,7 @@ fn exercises_print_their_lines_and_every_call_meets_its_refusals() {
     }
     assert!(seen.len() == 10 && seen.values().all(|&times| times > 1_000), "{seen:?}");
     assert!(signs > 10_000 && own > 10_000, "{signs} minus signs, {own} equations with a modulus of their own");
+    assert!(wide > 10_000, "{wide} numbers of 2^28 or more");
     let all: Tally = REFUSALS.iter().flat_map(|(name, numbers)| numbers.iter().map(|&number| (*name, number))).collect();
     assert_eq!(tally, all, "refusals seen, and refusals to be seen");
 }
@@ -168,8 +172,10 @@ fn tapes_of_boundary_values_print_their_lines() {
         let mut words = if chance(&mut random, 4) {
             vec![]
         } else {
-            ledger::opening(pick(&mut random, &[2, 3, 17, 65_535]), pick(&mut random, &[1, 2, 15, 16]))
+            let wide = pick(&mut random, &[65_536, (1 << 28) - 1, 1 << 28, (1 << 28) + 1, u32::MAX]);
+            ledger::opening(pick(&mut random, &[2, 3, 17, 65_535, wide]), pick(&mut random, &[1, 2, 15, 16]))
         };
+        let tops = random.below(3);
         for _ in 0..random.below(12) {
             match random.below(7) {
                 0 => words.push(boundary_word(&mut random)),
@@ -188,6 +194,13 @@ fn tapes_of_boundary_values_print_their_lines() {
                 }
                 5 => words.push(ledger::word(ledger::OWN_MODULUS, boundary(&mut random))),
                 _ => words.push(ledger::word(pick(&mut random, &[ledger::STRIKE, ledger::ANSWER]), boundary(&mut random))),
+            }
+        }
+        // words of kind 13 between them, many or few: most are good where the next word takes one
+        for place in (0..words.len()).rev().filter(|_| tops > 0) {
+            if chance(&mut random, if tops == 1 { 3 } else { 12 }) {
+                let number = pick(&mut random, &[0, 1, 1, 2, 7, 8, 15, 15, 16, (1 << 28) - 1]);
+                words.insert(place, ledger::word(ledger::TOP, number));
             }
         }
         expect(&tape::bytes(&words), random.seed, &mut Tally::new());
@@ -215,7 +228,14 @@ fn random_words_and_random_bytes_print_their_lines() {
 
 #[test]
 fn a_tape_is_cut_into_calls_as_the_paper_says() {
-    let all = [tape::readings(), tape::signed_readings(), tape::own_readings(), tape::struck_readings(), tape::long_readings()];
+    let all = [
+        tape::readings(),
+        tape::signed_readings(),
+        tape::own_readings(),
+        tape::struck_readings(),
+        tape::long_readings(),
+        tape::wide_readings(),
+    ];
     for (words, lines) in all.concat() {
         assert_eq!(expect(&tape::bytes(&words), 0, &mut Tally::new()), lines, "{words:x?}");
     }
@@ -225,6 +245,14 @@ fn a_tape_is_cut_into_calls_as_the_paper_says() {
 fn minus_signs_and_large_numbers_have_the_answers_that_the_paper_gives_them() {
     for (m, equation, answer) in SIGNED {
         let (words, lines) = tape::signed_tape(m, equation, answer);
+        assert_eq!(expect(&tape::bytes(&words), 0, &mut Tally::new()), lines, "{words:x?}");
+    }
+}
+
+#[test]
+fn large_moduli_have_the_answers_that_were_worked_out_by_hand() {
+    for (m, equation, answer) in WIDE {
+        let (words, lines) = tape::wide_tape(m, equation, answer);
         assert_eq!(expect(&tape::bytes(&words), 0, &mut Tally::new()), lines, "{words:x?}");
     }
 }
@@ -242,10 +270,13 @@ fn every_pair_of_small_signed_numbers_gets_the_answer_of_whole_numbers() {
     }
 }
 
+/// Some moduli of large sheets.
+const LARGE: [u32; 8] = [2, 12, 32_768, 65_535, 65_536, 1 << 28, (1 << 28) + 1, u32::MAX];
+
 /// The calls of an exercise, each of them good, with its equations written as they come, and the same with residues.
 fn in_two_writings(random: &mut Random) -> [Vec<u32>; 2] {
     let (m, n) = exercises::small_shape(random);
-    let (m, n) = if chance(random, 3) { (pick(random, &[2, 12, 32_768, 65_535]), pick(random, &[1, 8, 16])) } else { (m, n) };
+    let (m, n) = if chance(random, 3) { (pick(random, &LARGE), pick(random, &[1, 8, 16])) } else { (m, n) };
     let mut words = [ledger::opening(m, n), ledger::opening(m, n)];
     for _ in 0..1 + random.below(12) {
         let q = if chance(random, 2) { exercises::divisor(random, m) } else { m };
@@ -266,7 +297,7 @@ fn equations_with_signs_and_large_numbers_print_the_lines_of_their_residues() {
     let mut signs = 0;
     for _ in 0..1_000 {
         let [signed, plain] = in_two_writings(&mut random);
-        signs += signed.iter().filter(|&&word| ledger::whole(word) < 0).count();
+        signs += ledger::joined(&signed).iter().filter(|&&word| ledger::whole(word) < 0).count();
         assert_eq!(printed(&tape::bytes(&signed)), printed(&tape::bytes(&plain)), "{signed:x?} (seed {})", random.seed);
     }
     assert!(signs > 3_000, "{signs} minus signs");
@@ -343,15 +374,14 @@ fn an_answer_that_was_printed_passes_or_is_long_as_a_claim_on_the_same_tape() {
     let (mut passed, mut long, mut none) = (0, 0, 0);
     for round in 0..300 {
         let large = round % 3 == 0;
-        let (m, n) =
-            if large { (pick(&mut random, &[2, 12, 60, 32_768, 65_535]), 16) } else { exercises::small_shape(&mut random) };
+        let (m, n) = if large { (pick(&mut random, &LARGE), 16) } else { exercises::small_shape(&mut random) };
         let mut words = ledger::opening(m, n);
         let solution: Vec<u64> = (0..n).map(|_| random.below(m as u64)).collect();
         for _ in 0..random.below(17) {
             let q = if chance(&mut random, 2) { exercises::divisor(&mut random, m) } else { m };
             let mut numbers: Vec<i64> = (0..n).map(|_| exercises::any_whole(&mut random, q)).collect();
-            let right: i64 = numbers.iter().zip(&solution).map(|(&a, &x)| a * x as i64).sum();
-            let right = if round % 4 == 0 { random.below(q as u64) as u32 } else { reference::residue(q, right) };
+            let right: i128 = numbers.iter().zip(&solution).map(|(&a, &x)| a as i128 * x as i128).sum();
+            let right = if round % 4 == 0 { random.below(q as u64) as u32 } else { right.rem_euclid(q as i128) as u32 };
             numbers.push(exercises::written(&mut random, q, right));
             words.extend(ledger::line_words(m, &Line { q, numbers }));
         }

@@ -13,7 +13,7 @@ mod spelling;
 
 use acts::{add, add_text, answer, open, step, Tally};
 use exercises::{chance, pick};
-use face::LONGEST_BLOCK;
+use face::LONGEST_WORDS;
 use grammar::{ADDED, LONGEST_TEXT, OUTSIDE, REFUSED};
 use ledger::Ledger;
 use random::Random;
@@ -81,7 +81,7 @@ impl Times {
 
 /// The vectors that the answer to the sheet describes.
 fn described(desk: &mut Desk, m: u32, n: usize) -> BTreeSet<Vec<u32>> {
-    let reply = desk.act(&answer(LONGEST_BLOCK)).expect("an answer");
+    let reply = desk.act(&answer(LONGEST_WORDS)).expect("an answer");
     let numbers = acts::answered(&reply);
     let vectors: Vec<Vec<u32>> = numbers[1..].chunks(n).map(|vector| vector.to_vec()).collect();
     ledger::described(m, if numbers[0] == 0 { &[] } else { &vectors })
@@ -210,7 +210,7 @@ fn a_sheet_can_be_filled_with_typed_equations_and_words_in_turn() {
     let mut acts = vec![open(12, 2)];
     for k in 0..8 {
         let typed = add_text(&format!("{k}*x1 + 3*x2 = {k}*{k}"));
-        acts.extend([typed, answer(LONGEST_BLOCK), add(&[k, 1, 2]), answer(LONGEST_BLOCK)]);
+        acts.extend([typed, answer(LONGEST_WORDS), add(&[k, 1, 2]), answer(LONGEST_WORDS)]);
     }
     acts.extend([add_text("x1=x2"), add(&[1, 1, 1]), Act::Strike(0), add_text("x1=x2"), add_text("x1=x2")]);
     for act in acts {
@@ -269,12 +269,14 @@ fn signs_and_brackets_that_lead_nowhere_are_refused_up_to_the_greatest_depth() {
     }
 }
 
+const LARGE: [u32; 9] = [32_768, 65_521, 65_534, 65_535, 65_536, (1 << 28) - 1, (1 << 28) + 1, 4_294_967_291, u32::MAX];
+
 #[test]
 fn large_moduli_and_long_products_come_out_right() {
     let mut random = Random::new();
     let (mut times, mut longest) = (Times::default(), 0);
     for _ in 0..3_000 {
-        let (m, n) = (pick(&mut random, &[32_768, 65_521, 65_534, 65_535]), pick(&mut random, &[1, 4, 16]));
+        let (m, n) = (pick(&mut random, &LARGE), pick(&mut random, &[1, 4, 16]));
         let typed = spelling::typed(&mut random, 24, n, false);
         let text = spelling::spelled(&mut random, &typed);
         let (outcome, _) = Opened::new(m, n).expect(&text, random.seed);
@@ -288,7 +290,7 @@ fn large_moduli_and_long_products_come_out_right() {
 #[test]
 fn products_of_the_largest_numbers_are_those_of_whole_numbers() {
     // seven factors below 100,000 fit into 128 bits
-    for m in [2, 3, 10, 255, 256, 32_768, 65_521, 65_535] {
+    for m in [2, 3, 10, 255, 256, 32_768, 65_521, 65_535].into_iter().chain(LARGE) {
         for factors in 1..=7 {
             for number in [99_999_u32, 65_535, 65_536, 65_534, 92_681, 46_341] {
                 let product = (number as u128).pow(factors) % m as u128;

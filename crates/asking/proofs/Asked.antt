@@ -1,24 +1,23 @@
 -- Questions that several calls ask.
 --   opened-asked   "opened? 4.", the first question
---   plain-asked    "On tape, number 0? 1."
+--   tops-asked     "right before 1, a kind 13 word .. 17"
 --   held-asked     "An equation there? 7."
 --   place-asked    "after 7, a place beyond the lines held 16"
 --   room-asked     "opened? 4." and, behind what is asked of an equation, "Under 16 equations? 5.", on an opened sheet
 --   typing-asked   so it is with a typed equation, by what the reader asks of its text
 use mathlib.Core.Path.{_≡_, sym, ap, _∙_}
-use mathlib.Core.Bool.{true}
+use mathlib.Core.Bool.{Bool, true}
 use mathlib.Core.List.{List, [], _∷_, _++_}
 use Prim.Native.Nat.{ℕ}
-use lib.Dec.{eqb, leb, ltb}
+use lib.Dec.{leb, ltb}
 use lib.ListN.{length}
 use Rattle.questions.specs.Questions.{Question, asks, firstNo}
 use Rattle.questions.proofs.Ladder.{thenAsks, Asked, nothing-asked, then-asked}
-use Rattle.words.specs.declared.unpacking.Word.{Word}
-use Rattle.words.specs.Words.{wordOf}
+use Rattle.words.specs.Words.{wordsIn, topsFit}
 use Rattle.grammar.specs.Texts.{isTyped, isWithin, isLinear}
 use Rattle.ledger.specs.Ledger.{Ledger, isOpened, unknownsOf, linesIn, mostEquations}
 use Rattle.ledger.specs.Calls.{types, enters}
-use Rattle.ledger.specs.Questions.{plain, refusalOf}
+use Rattle.ledger.specs.Questions.{refusalOf}
 use Rattle.asking.specs.declared.Seen.{Seen}
 use Rattle.asking.specs.Sees.{Sees}
 
@@ -27,9 +26,9 @@ pub opened-asked : {l : Ledger} {seen : Seen} {r : ℕ} → Sees l seen → r �
 opened-asked {l} sees is = then-asked nothing-asked 4 tt (isOpened l) (λ yes. sees .opened) is
 
 module _ {qs : List Question} {before : ℕ} (asked : Asked qs before) {r : ℕ} where
-  pub plain-asked : (w : ℕ) {word : Word} → word ≡ wordOf w → r ≡ thenAsks before 1 (eqb (word .number) 0)
-      → Asked (qs ++ (asks 1 (plain w) ∷ [])) r
-  plain-asked w unpacked is = then-asked asked 1 tt (plain w) (λ yes. ap (λ (u : Word). eqb (u .number) 0) unpacked) is
+  pub tops-asked : (ws : List ℕ) {fit : Bool} → fit ≡ topsFit (wordsIn ws) → r ≡ thenAsks before 17 fit
+      → Asked (qs ++ (asks 17 (topsFit (wordsIn ws)) ∷ [])) r
+  tops-asked ws fits is = then-asked asked 17 tt (topsFit (wordsIn ws)) (λ yes. fits) is
 
   pub held-asked : {l : Ledger} {seen : Seen} → Sees l seen → r ≡ thenAsks before 7 (ltb 0 (seen .held))
       → Asked (qs ++ (asks 7 (ltb 0 (length (linesIn l))) ∷ [])) r

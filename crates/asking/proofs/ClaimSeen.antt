@@ -9,6 +9,7 @@ use lib.Dec.{T, leb, leb→le}
 use lib.ListN.{length, take, getD, replicate, length-replicate}
 use Rattle.slices.specs.Over.{over}
 use Rattle.equations.specs.Vectors.{sameVector}
+use Rattle.words.specs.declared.unpacking.Word.{Word}
 use Rattle.words.specs.Words.{wordsIn, kindsOf, numbersOf, haveKinds, headKind, entryKind}
 use Rattle.words.proofs.Words.{kindOf, numberOf}
 use Rattle.words.proofs.Unpacked.{kinds-seen, part-seen}
@@ -34,12 +35,11 @@ module _ (n : ℕ) (few : n ≤ mostUnknowns) where
       )
 
   -- without a word there is no head: whatever is taken for its number, no kinds at all are not a claim's
-  head-seen : (ws : List ℕ) {head : ℕ} → (0 < length ws → head ≡ numberAt (wordsIn ws) 0)
-      → (leb head largestHead && haveKinds (wordsIn ws) (kindsBy head)) ≡ isClaim n (wordsIn ws)
-  unfolding wordsIn
+  head-seen : (words : List Word) {head : ℕ} → (0 < length words → head ≡ numberAt words 0)
+      → (leb head largestHead && haveKinds words (kindsBy head)) ≡ isClaim n words
   head-seen [] {head} is = and-false (leb head largestHead)
-  head-seen (w ∷ ws) is =
-      ap (λ (head : ℕ). leb head largestHead && haveKinds (wordsIn (w ∷ ws)) (kindsBy head)) (is (omega arith))
+  head-seen (w ∷ words) is =
+      ap (λ (head : ℕ). leb head largestHead && haveKinds (w ∷ words) (kindsBy head)) (is (omega arith))
 
   abbrev pub claimBy : ℕ → List ℕ → Bool
   claimBy head kinds = leb head largestHead && sameVector kinds (headKind ∷ replicate (head * n) entryKind)
@@ -51,4 +51,4 @@ module _ (n : ℕ) (few : n ≤ mostUnknowns) where
   claim-seen ws kinds₀ numbers₀ {r} {kinds} {numbers} count ks xs =
       let head = getD numbers 0 0 in
       and-where (leb head largestHead) (λ most. kinds-seen kindOf claimRoom ws kinds₀ ks count (kindsBy head) (kinds-fit head most))
-      ∙ head-seen ws (part-seen numberOf claimRoom ws numbers₀ xs 0 (omega arith))
+      ∙ head-seen (wordsIn ws) (part-seen numberOf claimRoom ws numbers₀ xs 0 (omega arith))

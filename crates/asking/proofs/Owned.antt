@@ -5,41 +5,45 @@
 --   behind-own     the equation's words
 --   either-so, used-least, used-own   the modulus that residues are taken by
 use mathlib.Core.Path.{_≡_, refl, sym, ap, _∙_}
-use mathlib.Core.Bool.{Bool, true, false, cond}
+use mathlib.Core.Bool.{Bool, true, false, cond, true≢false}
 use mathlib.Core.List.{List, [], _∷_}
 use Prim.Native.Nat.{ℕ, _<_, _≤_}
 use native.Mathlib.Omega.{arith}
 use lib.Dec.{T, eqb}
-use lib.ListN.{length, drop, getD}
+use lib.ListN.{length, drop}
 use Rattle.slices.proofs.Parts.{lent, lent-is}
 use Rattle.questions.specs.Questions.{allowedOwn}
 use Rattle.questions.proofs.Questions.{own-least}
 use Rattle.equations.proofs.Truth.{of-true}
-use Rattle.words.specs.Words.{wordOf, wordsIn, ownModulusKind}
+use Rattle.words.specs.declared.unpacking.Word.{Word}
+use Rattle.words.specs.Words.{wordsIn, ownModulusKind}
+use Rattle.words.specs.Fronts.{firstWord, firstLength}
+use Rattle.words.proofs.Tops.{words-none, words-first}
 use Rattle.ledger.specs.Shapes.{numberAt, hasOwn, ownModulus, equationWords}
-use Rattle.ledger.proofs.Shapes.{equation-memory}
 
 pub own-nothing : (ws : List ℕ) → length ws ≡ 0 → hasOwn (wordsIn ws) ≡ false
-unfolding wordsIn
-own-nothing [] none = refl
+own-nothing [] none = ap hasOwn words-none
 own-nothing (w ∷ ws) none = absurd (omega arith)
 
-pub own-by-first : (ws : List ℕ) → 0 < length ws → hasOwn (wordsIn ws) ≡ eqb (wordOf (getD ws 0 0) .kind) ownModulusKind
-unfolding wordsIn
-own-by-first [] some = absurd (omega arith)
-own-by-first (w ∷ ws) some = refl
+-- where there is a word
+module _ (ws : List ℕ) (some : 0 < length ws) where
+  pub own-by-first : hasOwn (wordsIn ws) ≡ eqb (firstWord ws .kind) ownModulusKind
+  own-by-first = ap hasOwn (words-first ws some)
 
-number-first : (ws : List ℕ) → 0 < length ws → wordOf (getD ws 0 0) .number ≡ numberAt (wordsIn ws) 0
-unfolding wordsIn
-number-first [] some = absurd (omega arith)
-number-first (w ∷ ws) some = refl
+  number-first : firstWord ws .number ≡ numberAt (wordsIn ws) 0
+  number-first = sym (ap (λ (words : List Word). numberAt words 0) (words-first ws some))
+
+  rest-first : wordsIn (drop (firstLength ws) ws) ≡ drop 1 (wordsIn ws)
+  rest-first = sym (ap (drop 1) (words-first ws some))
 
 module _ (m : ℕ) (ws : List ℕ) where
-  pub own-plain : hasOwn (wordsIn ws) ≡ false → (m ≡ ownModulus m (wordsIn ws)) × (_≡_ {A = ℕ} 0 (cond (hasOwn (wordsIn ws)) 1 0))
+  pub own-plain : hasOwn (wordsIn ws) ≡ false
+      → (m ≡ ownModulus m (wordsIn ws)) × (_≡_ {A = ℕ} 0 (cond (hasOwn (wordsIn ws)) (firstLength ws) 0))
   own-plain plain = rw plain (refl, refl)
 
   pub own-given : 0 < length ws → hasOwn (wordsIn ws) ≡ true
-      → (wordOf (getD ws 0 0) .number ≡ ownModulus m (wordsIn ws)) × (_≡_ {A = ℕ} 1 (cond (hasOwn (wordsIn ws)) 1 0))
+      → (firstWord ws .number ≡ ownModulus m (wordsIn ws))
+      × (firstLength ws ≡ cond (hasOwn (wordsIn ws)) (firstLength ws) 0)
   own-given some own = rw own (number-first ws some, refl)
 
 -- m in both cases, where one is q, which is m
@@ -55,10 +59,13 @@ used-least m q false is two = two
 pub used-own : (m q : ℕ) (allowed : Bool) → T allowed → cond allowed q m ≡ q
 used-own m q true t = refl
 
-pub behind-own : (ws : List ℕ) (k : ℕ) → k ≡ cond (hasOwn (wordsIn ws)) 1 0 → wordsIn (lent k ws) ≡ equationWords (wordsIn ws)
-behind-own ws k is =
-    ap wordsIn (lent-is k ws ∙ ap (λ (j : ℕ). drop j ws) is) ∙ go (hasOwn (wordsIn ws)) ∙ sym (equation-memory ws)
+pub behind-own : (ws : List ℕ) (k : ℕ) → k ≡ cond (hasOwn (wordsIn ws)) (firstLength ws) 0
+    → wordsIn (lent k ws) ≡ equationWords (wordsIn ws)
+behind-own ws k is = ap wordsIn (lent-is k ws ∙ ap (λ (j : ℕ). drop j ws) is) ∙ go (hasOwn (wordsIn ws)) refl ws refl
   where
-    go : (own : Bool) → wordsIn (drop (cond own 1 0) ws) ≡ wordsIn (cond own (drop 1 ws) ws)
-    go true = refl
-    go false = refl
+    go : (own : Bool) → hasOwn (wordsIn ws) ≡ own → (xs : List ℕ) → ws ≡ xs
+        → wordsIn (drop (cond own (firstLength ws) 0) ws) ≡ cond own (drop 1 (wordsIn ws)) (wordsIn ws)
+    go true own [] none =
+        let z : true ≡ false = sym own ∙ own-nothing ws (ap length none) in absurd (true≢false z)
+    go true own (w ∷ xs) same = rest-first ws (omega (arith, ap length same))
+    go false own xs same = refl

@@ -19,6 +19,7 @@ use questions::ask;
 use system::limits::EQUATIONS;
 use system::limits::LINE;
 use words::signs::residues_into;
+use words::unpacking::tops_fit;
 
 pub const EQUATION_ROOM: usize = LINE + 1;
 
@@ -42,13 +43,14 @@ pub fn adding_of(seen: Seen, words: &[u32], line: &mut [u32]) -> Adding
             modulus: 0,
         };
     }
+    let tops = ask(0, 17, tops_fit(words));
     let own = own_of(words, seen.modulus);
     let behind = own.behind;
     let allowed = own.allowed;
     let room = seen.held < EQUATIONS;
     let mut kinds = [0u32; EQUATION_ROOM];
     let count = residues_into(&words[behind..], own.modulus, &mut kinds, line);
-    let shape = ask(0, 1, is_equation(&kinds[..count], seen.unknowns));
+    let shape = ask(tops, 1, is_equation(&kinds[..count], seen.unknowns));
     let divides = ask(shape, 15, allowed);
     let refusal = ask(divides, 5, room);
     Adding {

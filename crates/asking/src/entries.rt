@@ -21,6 +21,7 @@ use system::limits::EQUATIONS;
 use system::limits::LINE;
 use typed::equation::Typing;
 use typed::equation::read;
+use words::unpacking::tops_fit;
 use words::unpacking::unpack_into;
 
 pub const OPENING_ROOM: usize = 3;
@@ -32,7 +33,8 @@ pub fn open_refusal(words: &[u32], numbers: &mut [u32]) -> u32
 {
     let mut kinds = [0u32; OPENING_ROOM];
     let count = unpack_into(words, &mut kinds, numbers);
-    let shape = ask(0, 1, is_opening(&kinds[..count]));
+    let tops = ask(0, 17, tops_fit(words));
+    let shape = ask(tops, 1, is_opening(&kinds[..count]));
     let modulus = ask(shape, 2, is_modulus(numbers[0]));
     ask(modulus, 3, are_unknowns(numbers[1] as usize))
 }

@@ -5,10 +5,11 @@ ghost use Prim.Native.Nat.{_≤_};
 ghost use lib.ListN.{length};
 ghost use Rattle.questions.specs.Questions.{allowedOwn};
 ghost use Rattle.words.specs.Words.{wordsIn};
+ghost use Rattle.words.specs.Fronts.{firstLength};
 ghost use Rattle.ledger.specs.Shapes.{hasOwn, ownModulus};
 use questions::is_own_modulus;
 use words::kinds::OWN_MODULUS;
-use words::unpacking::unpack;
+use words::unpacking::first_at;
 
 // Whether a line on the sheet may have the modulus that the words give it; this modulus, or the sheet's where it may not; and the place of
 // the first word of the equation.
@@ -23,33 +24,34 @@ pub(crate) fn own_of(words: &[u32], m: u32) -> Own
     requires { ⌜ 2 ≤ m ⌝ }
     ensures { λ r. ⌜ r .allowed ≡ allowedOwn m (ownModulus m (wordsIn (now (words .entry)))) ⌝ }
     ensures { λ r. ⌜ r .modulus ≡ cond (r .allowed) (ownModulus m (wordsIn (now (words .entry)))) m ⌝ }
-    ensures { λ r. ⌜ (r .behind ≡ cond (hasOwn (wordsIn (now (words .entry)))) 1 0) × (r .behind ≤ length (now (words .entry))) ⌝ }
+    ensures { λ r. ⌜ (r .behind ≡ cond (hasOwn (wordsIn (now (words .entry)))) (firstLength (now (words .entry))) 0) × (r .behind ≤ length (now (words .entry))) ⌝ }
 {
     if words.len() == 0 {
         return plain(m);
     }
-    let first = unpack(words[0]);
-    if first.kind != OWN_MODULUS {
+    let first = first_at(words, 0);
+    let word = first.word;
+    if word.kind != OWN_MODULUS {
         return plain(m);
     }
-    given(first.number, m)
+    given(word.number, m, first.length)
 }
 
-// The modulus q of its own.
-fn given(q: u32, m: u32) -> Own
-    ensures { λ r. ⌜ (r .allowed ≡ allowedOwn m q) × (r .modulus ≡ cond (r .allowed) q m) × (r .behind ≡ 1) ⌝ }
+// The modulus q of its own, in a word of so much memory.
+fn given(q: u32, m: u32, taken: usize) -> Own
+    ensures { λ r. ⌜ (r .allowed ≡ allowedOwn m q) × (r .modulus ≡ cond (r .allowed) q m) × (r .behind ≡ taken) ⌝ }
 {
     if !is_own_modulus(m, q) {
         return Own {
             allowed: false,
             modulus: m,
-            behind: 1,
+            behind: taken,
         };
     }
     Own {
         allowed: true,
         modulus: q,
-        behind: 1,
+        behind: taken,
     }
 }
 

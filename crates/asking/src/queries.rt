@@ -17,16 +17,17 @@ use questions::ask;
 use system::limits::BLOCK;
 use system::limits::VECTORS;
 use system::residues::all_below;
-use words::unpacking::unpack;
+use words::unpacking::tops_fit;
 use words::unpacking::unpack_into;
 
 pub const CLAIM_ROOM: usize = BLOCK + 1;
 
-pub fn answer_word_refusal(seen: Seen, word: u32) -> u32
-    ensures { λ r. ⌜ ((l : Ledger) → Sees l seen → r ≡ refusalOf l (queries (answersFromTape word))) ⌝ }
+// Of the number of an answer word on tape.
+pub fn answer_word_refusal(seen: Seen, number: u32) -> u32
+    ensures { λ r. ⌜ ((l : Ledger) → Sees l seen → r ≡ refusalOf l (queries (answersFromTape number))) ⌝ }
 {
     let opened = ask(0, 4, seen.opened);
-    ask(opened, 1, unpack(word).number == 0)
+    ask(opened, 1, number == 0)
 }
 
 pub fn mark_refusal(seen: Seen, words: &[u32], numbers: &mut [u32]) -> u32
@@ -39,7 +40,8 @@ pub fn mark_refusal(seen: Seen, words: &[u32], numbers: &mut [u32]) -> u32
     let claim = is_claim(&kinds[..count], numbers[0], seen.unknowns);
     let below = entries_below(seen.modulus, &numbers[..count]);
     let opened = ask(0, 4, seen.opened);
-    let shape = ask(opened, 1, claim);
+    let tops = ask(opened, 17, tops_fit(words));
+    let shape = ask(tops, 1, claim);
     ask(shape, 6, below)
 }
 

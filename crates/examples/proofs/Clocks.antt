@@ -7,6 +7,7 @@ use mathlib.Core.Bool.{Bool, true, false}
 use mathlib.Core.Path.{_≡_, refl}
 use Prim.Native.Nat.{ℕ}
 use lib.ListN.{replicate}
+use Rattle.words.specs.Fronts.{firstLength, frontLength}
 use Rattle.questions.specs.Reply.{memoryAfter}
 use Rattle.residue.specs.Residue.{residueOf}
 use Rattle.residue.specs.Negative.{negative}
@@ -20,9 +21,9 @@ use Rattle.equations.specs.Line.{Line, lineStart, lineSteps, lineIsRight, lineM
 use Rattle.equations.specs.LineReasons.{lineSolvable, lineReason}
 use Rattle.system.specs.Claims.{claimOf, vectorsOf}
 use Rattle.system.specs.Lines.{lineBlock}
-use Rattle.words.specs.Words.{word, wordsIn, coefficientKind, rightKind, minusRightKind, ownModulusKind}
+use Rattle.words.specs.Words.{word, wordsIn, coefficientKind, rightKind, minusRightKind, ownModulusKind, carries, wordsFor}
 use Rattle.ledger.specs.Ledger.{Ledger, unopened, opened}
-use Rattle.ledger.specs.Block.{answerWords}
+use Rattle.ledger.specs.Block.{answerWords, answerRoom}
 use Rattle.ledger.specs.Marking.{claimMark, claimReason}
 use Rattle.ledger.specs.Calls.{adds, Call, enters}
 use Rattle.ledger.specs.Questions.{refusalOf}
@@ -76,26 +77,26 @@ clockCalls = opening 12 1 ∷ enters (adds (isWords 3 2)) ∷ enters (adds (isWo
 
 -- the ledger has the lines, with their moduli
 pub clock-held : ledgerOf (after clockCalls) ≡ opened 12 1 (is 3 2 ∷ is 4 3 ∷ [])
-unfolding sheetFrom fresh sheetAfter ledgerOf refusalOf wordsIn residueOf equationsOf
+unfolding sheetFrom fresh sheetAfter ledgerOf refusalOf wordsIn residueOf equationsOf carries wordsFor
 clock-held = refl
 
 pub clock-answered : (x y z : ℕ) → buffer clockCalls (x ∷ y ∷ z ∷ []) ≡ block 1 (11 ∷ []) ++ (z ∷ [])
 unfolding sheetFrom fresh sheetAfter ledgerOf bufferAfter memoryAfter refusalOf wordsIn residueOf equationsOf answerWords lineBlock
-    lineStart lineSteps flatten
+    lineStart lineSteps flatten carries wordsFor answerRoom
 clock-answered x y z = refl
 
 -- minus 1 mod 3 is 2, not 11, and 14 mod 4 is 2
 pub residues-mod-own :
     ledger (opening 12 1 ∷ enters (adds (own 3 ∷ word coefficientKind 13 ∷ word minusRightKind 1 ∷ [])) ∷ enters (adds (isWords 4 14)) ∷ [])
     ≡ opened 12 1 (is 3 2 ∷ is 4 2 ∷ [])
-unfolding ledgerFrom enter refusalOf wordsIn residueOf negative
+unfolding ledgerFrom enter refusalOf wordsIn residueOf negative carries wordsFor
 residues-mod-own = refl
 
 -- mod 12 it is the plain line
 pub whole-modulus :
     ledger (opening 12 1 ∷ enters (adds (isWords 12 5)) ∷ [])
     ≡ ledger (opening 12 1 ∷ enters (adds (word coefficientKind 1 ∷ word rightKind 5 ∷ [])) ∷ [])
-unfolding ledgerFrom enter refusalOf wordsIn residueOf
+unfolding ledgerFrom enter refusalOf wordsIn residueOf carries wordsFor
 whole-modulus = refl
 
 -- ---- marks and reasons, of x = 2 mod 3
@@ -106,14 +107,14 @@ three = opened 12 1 (is 3 2 ∷ [])
 pub marked :
     (claimMark three (block 2 (2 ∷ 3 ∷ [])) ≡ Pass) × (claimMark three (block 2 (11 ∷ 9 ∷ [])) ≡ Pass)
     × (claimMark three (block 2 (2 ∷ 6 ∷ [])) ≡ Fail)
-unfolding wordsIn claimOf vectorsOf lineMark lineIsRight superfluousAt superfluous describes
+unfolding wordsIn claimOf vectorsOf lineMark lineIsRight superfluousAt superfluous describes carries wordsFor
 marked = (refl, refl, refl)
 
 -- 5 leaves 2 mod 3, though not mod 12; the step 3 changes the left side mod 12 alone, the step 2 mod 3 too
 pub reasons :
     (claimReason three (block 2 (5 ∷ 3 ∷ [])) ≡ Passes) × (claimReason three (block 1 (3 ∷ [])) ≡ Breaks 1)
     × (claimReason three (block 3 (2 ∷ 3 ∷ 2 ∷ [])) ≡ Changes 2 1)
-unfolding wordsIn claimOf vectorsOf lineReason lineSolvable lineIsRight superfluousAt superfluous describes
+unfolding wordsIn claimOf vectorsOf lineReason lineSolvable lineIsRight superfluousAt superfluous describes carries wordsFor
 reasons = (refl, refl, refl)
 
 -- ---- what is turned away
@@ -128,7 +129,7 @@ full = opened 12 1 (linesMod 12 (replicate 16 (equation (0 ∷ []) 0)))
 pub fifteen :
     (asked three (isWords 0 0) ≡ 15) × (asked three (isWords 1 0) ≡ 15) × (asked three (isWords 5 0) ≡ 15) × (asked three (isWords 24 0) ≡ 15)
     × (asked full (isWords 5 0) ≡ 15) × (asked full (isWords 3 0) ≡ 5)
-unfolding refusalOf wordsIn
+unfolding refusalOf wordsIn carries wordsFor
 fifteen = (refl, refl, refl, refl, refl, refl)
 
 -- a misshapen add with a bad q is 1; so is kind 12 twice or not in front; a modulus alone is no equation
@@ -137,7 +138,7 @@ pub misshapen :
     × (asked three (word coefficientKind 1 ∷ own 3 ∷ word rightKind 0 ∷ []) ≡ 1)
     × (asked three (word coefficientKind 1 ∷ word rightKind 0 ∷ own 3 ∷ []) ≡ 1) × (asked three (own 3 ∷ []) ≡ 1)
     × (asked unopened (isWords 5 0) ≡ 4)
-unfolding refusalOf wordsIn
+unfolding refusalOf wordsIn carries wordsFor
 misshapen = (refl, refl, refl, refl, refl, refl)
 
 -- ---- on tape
@@ -145,11 +146,12 @@ misshapen = (refl, refl, refl, refl, refl, refl)
 -- it "begins its add, which then takes n+2 words, or one when unopened"
 pub twelve-first : (ws : List ℕ)
     → (firstCall three (isWords 4 3 ++ ws) ≡ enters (adds (isWords 4 3))) × (behindFirst three (isWords 4 3 ++ ws) ≡ ws)
-unfolding firstCall behindFirst
-twelve-first ws = (refl, refl)
+unfolding firstCall behindFirst wordsIn carries wordsFor firstLength frontLength
+twelve-first [] = (refl, refl)
+twelve-first (w ∷ ws) = (refl, refl)
 
 pub twelve-first-unopened : (ws : List ℕ)
     → (firstCall unopened (isWords 4 3 ++ ws) ≡ enters (adds (own 4 ∷ [])))
     × (behindFirst unopened (isWords 4 3 ++ ws) ≡ (word coefficientKind 1 ∷ word rightKind 3 ∷ []) ++ ws)
-unfolding firstCall behindFirst
+unfolding firstCall behindFirst wordsIn carries wordsFor firstLength frontLength
 twelve-first-unopened ws = (refl, refl)

@@ -1,4 +1,4 @@
--- Eight tables.
+-- Nine tables.
 pub mod Starred
 pub mod Typed
 pub mod Signed
@@ -7,3 +7,4 @@ pub mod Reasons
 pub mod Clocks
 pub mod Strikes
 pub mod Long
+pub mod Wide

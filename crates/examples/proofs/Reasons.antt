@@ -14,9 +14,9 @@ use Rattle.equations.specs.Line.{lineIsRight, linesMod}
 use Rattle.equations.specs.LineReasons.{lineSolvable, lineReason}
 use Rattle.system.specs.Claims.{claimOf, vectorsOf}
 use Rattle.system.specs.Lines.{lineShown}
-use Rattle.words.specs.Words.{word, wordsIn, entryKind}
+use Rattle.words.specs.Words.{word, wordsIn, entryKind, carries, wordsFor}
 use Rattle.ledger.specs.Ledger.{Ledger, unopened, opened}
-use Rattle.ledger.specs.Marking.{claimReason, reasonWords}
+use Rattle.ledger.specs.Marking.{claimReason, reasonWords, reasonRoom}
 use Rattle.ledger.specs.Calls.{reasons, queries}
 use Rattle.ledger.specs.Questions.{refusalOf}
 use Rattle.sheet.specs.declared.reasoning.Reasoned.the-variants.{Gives, Refused}
@@ -34,27 +34,27 @@ pub one-of-each :
     × (claimReason sheet (block 2 (0 ∷ 0 ∷ 1 ∷ 0 ∷ [])) ≡ Changes 1 1)
     × (claimReason sheet (block 2 (0 ∷ 0 ∷ 0 ∷ 2 ∷ [])) ≡ Misses)
     × (claimReason sheet (block 2 (0 ∷ 0 ∷ 2 ∷ 3 ∷ [])) ≡ Passes)
-unfolding wordsIn claimOf vectorsOf lineReason lineSolvable lineIsRight superfluousAt superfluous describes
+unfolding wordsIn claimOf vectorsOf lineReason lineSolvable lineIsRight superfluousAt superfluous describes carries wordsFor
 one-of-each = (refl, refl, refl, refl, refl)
 
 -- "the first such": of three equations the second and the third are broken
 pub second-equation-broken :
     claimReason (opened 4 2 (linesMod 4 (equation (0 ∷ 2 ∷ []) 0 ∷ equation (1 ∷ 0 ∷ []) 1 ∷ equation (2 ∷ 0 ∷ []) 2 ∷ []))) (block 1 (0 ∷ 0 ∷ []))
     ≡ Breaks 2
-unfolding wordsIn claimOf vectorsOf lineReason lineSolvable lineIsRight describes
+unfolding wordsIn claimOf vectorsOf lineReason lineSolvable lineIsRight describes carries wordsFor
 second-equation-broken = refl
 
 -- "giving the first step, and for it the first such equation": the second step, and of it the first equation or the second
 pub second-step :
     (claimReason (opened 4 2 (linesMod 4 (equation (1 ∷ 2 ∷ []) 0 ∷ equation (2 ∷ 0 ∷ []) 0 ∷ []))) (block 3 (0 ∷ 0 ∷ 2 ∷ 1 ∷ 1 ∷ 0 ∷ [])) ≡ Changes 2 1)
     × (claimReason (opened 4 2 (linesMod 4 (equation (2 ∷ 0 ∷ []) 0 ∷ equation (1 ∷ 2 ∷ []) 0 ∷ []))) (block 3 (0 ∷ 0 ∷ 2 ∷ 1 ∷ 2 ∷ 0 ∷ [])) ≡ Changes 2 2)
-unfolding wordsIn claimOf vectorsOf lineReason lineSolvable lineIsRight describes
+unfolding wordsIn claimOf vectorsOf lineReason lineSolvable lineIsRight describes carries wordsFor
 second-step = (refl, refl)
 
 -- steps outside, equations inside: the first step changes the second equation, though the second step changes the first
 pub steps-before-equations :
     claimReason (opened 4 2 (linesMod 4 (equation (2 ∷ 0 ∷ []) 0 ∷ equation (1 ∷ 2 ∷ []) 0 ∷ []))) (block 3 (0 ∷ 0 ∷ 2 ∷ 0 ∷ 1 ∷ 0 ∷ [])) ≡ Changes 1 2
-unfolding wordsIn claimOf vectorsOf lineReason lineSolvable lineIsRight describes
+unfolding wordsIn claimOf vectorsOf lineReason lineSolvable lineIsRight describes carries wordsFor
 steps-before-equations = refl
 
 -- 2·x = 1 has no solution: whatever else is claimed gets this reason, before a start is looked at, and who claims none is right
@@ -64,7 +64,7 @@ none = opened 4 2 (linesMod 4 (equation (2 ∷ 0 ∷ []) 1 ∷ []))
 pub no-start-looked-at :
     (claimReason none (block 2 (3 ∷ 3 ∷ 1 ∷ 0 ∷ [])) ≡ Unsolvable) × (claimReason none (block 1 (0 ∷ 0 ∷ [])) ≡ Unsolvable)
     × (claimReason none (block 0 []) ≡ Passes)
-unfolding wordsIn claimOf vectorsOf lineReason lineSolvable lineIsRight describes
+unfolding wordsIn claimOf vectorsOf lineReason lineSolvable lineIsRight describes carries wordsFor
 no-start-looked-at = (refl, refl, refl)
 
 -- ---- what is written
@@ -74,6 +74,7 @@ pub solution-written :
     (reasonedOf sheet (block 0 []) (9 ∷ 9 ∷ 9 ∷ []) ≡ Gives Solvable 2)
     × (shownAfter sheet (block 0 []) (9 ∷ 9 ∷ 9 ∷ []) ≡ word entryKind 0 ∷ word entryKind 0 ∷ 9 ∷ [])
 unfolding reasonedOf shownAfter resultOf memoryAfter reasonWords lineShown startOf wordsIn claimOf vectorsOf lineReason lineSolvable
+    carries wordsFor reasonRoom
 solution-written = (refl, refl)
 
 -- "where the reason has none, or the claim passes, the buffer keeps its content": it may be empty
@@ -82,7 +83,8 @@ pub nothing-written :
     × (reasonedOf sheet (block 2 (0 ∷ 0 ∷ 1 ∷ 0 ∷ [])) [] ≡ Gives (Changes 1 1) 0)
     × (reasonedOf sheet (block 2 (0 ∷ 0 ∷ 2 ∷ 3 ∷ [])) [] ≡ Gives Passes 0)
     × (shownAfter sheet (block 2 (0 ∷ 0 ∷ 2 ∷ 3 ∷ [])) (9 ∷ []) ≡ 9 ∷ [])
-unfolding reasonedOf shownAfter resultOf memoryAfter reasonWords lineShown wordsIn claimOf vectorsOf lineReason lineSolvable lineIsRight superfluousAt superfluous describes
+unfolding reasonedOf shownAfter resultOf memoryAfter reasonWords lineShown wordsIn claimOf vectorsOf lineReason lineSolvable
+    lineIsRight superfluousAt superfluous describes carries wordsFor reasonRoom
 nothing-written = (refl, refl, refl, refl)
 
 -- ---- what is turned away
@@ -94,11 +96,12 @@ asked l ws room = refusalOf l (queries (reasons ws (replicate room 0)))
 pub turned-away :
     (asked unopened (block 0 []) 2 ≡ 4) × (asked sheet (block 1 (1 ∷ [])) 2 ≡ 1) × (asked sheet (block 1 (1 ∷ 4 ∷ [])) 0 ≡ 6)
     × (asked sheet (block 0 []) 1 ≡ 8) × (asked sheet (block 0 []) 2 ≡ 0)
-unfolding refusalOf reasonWords lineShown startOf wordsIn claimOf vectorsOf lineReason lineSolvable
+unfolding refusalOf reasonWords lineShown startOf wordsIn claimOf vectorsOf lineReason lineSolvable carries wordsFor reasonRoom
 turned-away = (refl, refl, refl, refl, refl)
 
 -- nothing is written then
 pub kept-at-eight :
     (reasonedOf sheet (block 0 []) (9 ∷ []) ≡ Refused 8) × (shownAfter sheet (block 0 []) (9 ∷ []) ≡ 9 ∷ [])
 unfolding reasonedOf shownAfter resultOf memoryAfter reasonWords lineShown startOf wordsIn claimOf vectorsOf lineReason lineSolvable
+    carries wordsFor reasonRoom
 kept-at-eight = (refl, refl)

@@ -8,6 +8,7 @@ use native.Mathlib.Decide.{decLt}
 use native.Mathlib.Omega.{arith}
 use lib.IntN.{pos, negℤ}
 use lib.ListN.{replicate}
+use Rattle.words.specs.Fronts.{firstLength, frontLength}
 use Rattle.residue.specs.Congruent.{Congruent}
 use Rattle.residue.specs.Negative.{negative}
 use Rattle.residue.specs.Residue.{residueOf}
@@ -19,7 +20,7 @@ use Rattle.residue.proofs.Congruent.{congruent-refl, congruent-add}
 use Rattle.residue.proofs.Solutions.{solutions-are, solutions-describe}
 use Rattle.congruence.specs.declared.Solved.the-variants.{Solutions}
 use Rattle.congruence.specs.Congruence.{solvedOf, congruenceOf}
-use Rattle.words.specs.Words.{word, wordsIn, coefficientKind, rightKind, minusCoefficientKind, minusRightKind}
+use Rattle.words.specs.Words.{word, wordsIn, coefficientKind, rightKind, minusCoefficientKind, minusRightKind, carries, wordsFor}
 use Rattle.equations.specs.Line.{linesMod}
 use Rattle.ledger.specs.Ledger.{Ledger, unopened, opened}
 use Rattle.ledger.specs.Calls.{adds, meaningless, enters, queries}
@@ -101,7 +102,7 @@ pub any-mix :
     ledger (opening 12 2 ∷ enters (adds (minus 5 ∷ plus 268435455 ∷ minusRight 30 ∷ []))
     ∷ enters (adds (minus 0 ∷ minus 13 ∷ right 12 ∷ [])) ∷ [])
     ≡ opened 12 2 (linesMod 12 (equation (7 ∷ 3 ∷ []) 6 ∷ equation (0 ∷ 11 ∷ []) 0 ∷ []))
-unfolding ledgerFrom enter refusalOf wordsIn residueOf negative
+unfolding ledgerFrom enter refusalOf wordsIn residueOf negative carries wordsFor
 any-mix = refl
 
 abbrev numbers : Ledger → List (List ℕ) → List ℕ
@@ -115,7 +116,7 @@ wrongShapes =
     ∷ (minus 1 ∷ []) ∷ (minus 1 ∷ minusRight 1 ∷ []) ∷ (minus 1 ∷ minus 1 ∷ minusRight 1 ∷ minusRight 1 ∷ []) ∷ []
 
 pub wrong-shapes : numbers (opened 12 2 []) wrongShapes ≡ replicate 6 1
-unfolding refusalOf wordsIn
+unfolding refusalOf wordsIn carries wordsFor
 wrong-shapes = refl
 
 abbrev rightShape : List ℕ
@@ -123,15 +124,15 @@ rightShape = minus 268435455 ∷ plus 12 ∷ minusRight 12 ∷ []
 
 -- numbers of m and more are no reason to turn an equation away; a full sheet is, and one that is not opened
 pub only-full : numbers (opened 12 2 []) (rightShape ∷ []) ≡ (0 ∷ [])
-unfolding refusalOf wordsIn
+unfolding refusalOf wordsIn carries wordsFor
 only-full = refl
 
 pub full-sheet : numbers (opened 12 2 (linesMod 12 full)) (rightShape ∷ []) ≡ (5 ∷ [])
-unfolding refusalOf wordsIn
+unfolding refusalOf wordsIn carries wordsFor
 full-sheet = refl
 
 pub not-opened : numbers unopened (rightShape ∷ []) ≡ (4 ∷ [])
-unfolding refusalOf wordsIn
+unfolding refusalOf wordsIn carries wordsFor
 not-opened = refl
 
 -- ---- on tape
@@ -139,23 +140,25 @@ not-opened = refl
 -- "A first word of kind 10 begins an add of n+1 words as kind 3 does", of one word when unopened
 pub ten-first : (ws : List ℕ)
     → (firstCall (opened 12 2 []) (rightShape ++ ws) ≡ enters (adds rightShape)) × (behindFirst (opened 12 2 []) (rightShape ++ ws) ≡ ws)
-unfolding firstCall behindFirst
-ten-first ws = (refl, refl)
+unfolding firstCall behindFirst wordsIn carries wordsFor firstLength frontLength
+ten-first [] = (refl, refl)
+ten-first (w ∷ ws) = (refl, refl)
 
 pub ten-first-unopened : (ws : List ℕ)
     → (firstCall unopened (rightShape ++ ws) ≡ enters (adds (minus 268435455 ∷ [])))
     × (behindFirst unopened (rightShape ++ ws) ≡ (plus 12 ∷ minusRight 12 ∷ []) ++ ws)
-unfolding firstCall behindFirst
+unfolding firstCall behindFirst wordsIn carries wordsFor firstLength frontLength
 ten-first-unopened ws = (refl, refl)
 
 -- "11 as first word is refused with 1", opened or not
 pub eleven-first : (l : Ledger) (ws : List ℕ)
-    → (firstCall l (minusRight 1 ∷ ws) ≡ queries (meaningless (minusRight 1))) × (behindFirst l (minusRight 1 ∷ ws) ≡ ws)
-    × (refusalOf l (queries (meaningless (minusRight 1))) ≡ 1)
-unfolding firstCall behindFirst refusalOf
-eleven-first l ws = (refl, refl, refl)
+    → (firstCall l (minusRight 1 ∷ ws) ≡ queries (meaningless (minusRight 1 ∷ []))) × (behindFirst l (minusRight 1 ∷ ws) ≡ ws)
+    × (refusalOf l (queries (meaningless (minusRight 1 ∷ []))) ≡ 1)
+unfolding firstCall behindFirst refusalOf wordsIn carries wordsFor firstLength frontLength
+eleven-first l [] = (refl, refl, refl)
+eleven-first l (w ∷ ws) = (refl, refl, refl)
 
 -- "The printed example keeps its last line, now for wrong shape."
 pub last-word : numbers (opened 2 2 (linesMod 2 (equation (1 ∷ 1 ∷ []) 1 ∷ []))) ((minus 0 ∷ []) ∷ []) ≡ (1 ∷ [])
-unfolding refusalOf wordsIn
+unfolding refusalOf wordsIn carries wordsFor
 last-word = refl

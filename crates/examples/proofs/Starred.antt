@@ -5,12 +5,13 @@
 use mathlib.Core.Bool.{true, false}
 use mathlib.Core.List.{List, [], _∷_, _++_, flatten}
 use mathlib.Core.Option.{none, some}
-use mathlib.Core.Path.{_≡_, refl, sym, _∙_}
-use Prim.Native.Nat.{ℕ, _*_}
+use mathlib.Core.Path.{_≡_, refl, sym, ap, _∙_}
+use Prim.Native.Nat.{ℕ, suc, _*_}
 use native.Mathlib.Omega.{arith}
 use lib.Dec.{T}
 use lib.IntN.{pos}
 use lib.ListN.{length, drop}
+use Rattle.slices.proofs.Over.{over-whole}
 use Rattle.questions.specs.Reply.{memoryAfter}
 use Rattle.residue.specs.Congruent.{Congruent}
 use Rattle.residue.specs.Residue.{residueOf}
@@ -20,6 +21,7 @@ use Rattle.residue.specs.Gcd.{gcd}
 use Rattle.congruence.specs.declared.Solved.the-variants.{NoSolution, Solutions}
 use Rattle.congruence.specs.Congruence.{congruenceOf}
 use Rattle.equations.specs.declared.Mark.the-variants.{Pass, Fail}
+use Rattle.equations.specs.Vectors.{Below}
 use Rattle.equations.specs.Equation.{Equation}
 use Rattle.equations.specs.Answer.{startOf, stepAt, stepsOf}
 use Rattle.equations.specs.Lines.{equationsOf}
@@ -29,17 +31,18 @@ use Rattle.equations.specs.Marks.{superfluous, superfluousAt, markOf}
 use Rattle.equations.specs.Line.{lineStart, lineSteps, lineIsRight, lineMark, linesMod}
 use Rattle.equations.specs.Promises.{ZeroEquation, ContradictoryEquation}
 use Rattle.equations.proofs.Truth.{true-of}
-use Rattle.equations.proofs.Vectors.{all-below}
-use Rattle.equations.proofs.Multipliers.{refutes-is}
+use Rattle.equations.proofs.Vectors.{all-below, below-mono}
+use Rattle.equations.proofs.Multipliers.{Refutation, refutes-is}
 use Rattle.equations.proofs.Promises.{zero-equation, contradictory-equation}
 use Rattle.system.specs.Block.{blockOf}
 use Rattle.system.specs.Claims.{claimOf, vectorsOf}
 use Rattle.system.specs.Lines.{lineBlock}
 use Rattle.system.proofs.Lines.{plain-shown}
 use Rattle.system.proofs.Promises.{answered}
-use Rattle.words.specs.Words.{word, wordsIn, wordsOf, modulusKind, unknownsKind, coefficientKind, rightKind, headKind, entryKind, multiplierKind}
+use Rattle.words.specs.Words.{numbersOfAKind, word, wordsIn, wordsOf, modulusKind, unknownsKind, coefficientKind, rightKind, headKind, entryKind, multiplierKind, carries, wordsFor}
+use Rattle.words.proofs.Packed.{written-one}
 use Rattle.ledger.specs.Ledger.{opened}
-use Rattle.ledger.specs.Block.{answerWords}
+use Rattle.ledger.specs.Block.{answerWords, answerRoom}
 use Rattle.ledger.specs.Calls.{opens, adds, strikes, Call, enters}
 use Rattle.ledger.specs.Questions.{refusalOf}
 use Rattle.sheet.specs.declared.marking.Marked.{Marked}
@@ -141,17 +144,17 @@ oneTwoIsZeroCalls = opening 4 2 ∷ adding (1 ∷ 2 ∷ []) 0 ∷ []
 pub one-two-is-zero-answered : (x : ℕ)
     → buffer oneTwoIsZeroCalls (x ∷ x ∷ x ∷ x ∷ x ∷ x ∷ x ∷ x ∷ []) ≡ block 3 (0 ∷ 0 ∷ 2 ∷ 1 ∷ 0 ∷ 2 ∷ []) ++ (x ∷ [])
 unfolding sheetFrom fresh sheetAfter ledgerOf bufferAfter memoryAfter refusalOf wordsIn residueOf equationsOf answerWords lineBlock
-    lineStart lineSteps flatten
+    lineStart lineSteps flatten carries wordsFor answerRoom
 one-two-is-zero-answered x = refl
 
 pub step-two-three-marked : marked oneTwoIsZeroCalls (block 2 (0 ∷ 0 ∷ 2 ∷ 3 ∷ [])) ≡ Gets Pass
 unfolding sheetFrom fresh sheetAfter ledgerOf markedOf refusalOf wordsIn residueOf equationsOf claimOf vectorsOf lineMark
-    lineIsRight superfluousAt superfluous describes
+    lineIsRight superfluousAt superfluous describes carries wordsFor
 step-two-three-marked = refl
 
 pub step-zero-two-marked : marked oneTwoIsZeroCalls (block 2 (0 ∷ 0 ∷ 0 ∷ 2 ∷ [])) ≡ Gets Fail
 unfolding sheetFrom fresh sheetAfter ledgerOf markedOf refusalOf wordsIn residueOf equationsOf claimOf vectorsOf lineMark
-    lineIsRight superfluousAt superfluous describes
+    lineIsRight superfluousAt superfluous describes carries wordsFor
 step-zero-two-marked = refl
 
 -- "m=6: 2x=4, 3x=3: from 5, no step."
@@ -186,7 +189,7 @@ struckCalls = withZeroCalls ++ (enters (strikes 0) ∷ [])
 
 pub two-and-three-answered : (x y z : ℕ) → buffer twoAndThreeCalls (x ∷ y ∷ z ∷ []) ≡ block 1 (5 ∷ []) ++ (z ∷ [])
 unfolding sheetFrom fresh sheetAfter ledgerOf bufferAfter memoryAfter refusalOf wordsIn residueOf equationsOf answerWords lineBlock
-    lineStart lineSteps flatten
+    lineStart lineSteps flatten carries wordsFor answerRoom
 two-and-three-answered x y z = refl
 
 abbrev withZeroLines : List ℕ
@@ -219,15 +222,23 @@ with-zero-refutes =
 with-zero-lines : lineBlock 6 1 (linesMod 6 withZero) ≡ 0 ∷ withZeroMultipliers
 with-zero-lines = plain-shown 6 1 withZero (omega arith) .0 ∙ with-zero-block
 
+with-zero-refuted : Refutation 6 1 withZero withZeroMultipliers
+with-zero-refuted = refutes-is 6 1 withZero withZeroMultipliers .0 with-zero-refutes
+
 -- a block of four words fits a buffer of four
-with-zero-fits : (x : ℕ) (ks : List ℕ) → length ks ≡ 3 → lineBlock 6 1 (linesMod 6 withZero) ≡ 0 ∷ ks
+with-zero-fits : (x : ℕ) (ks : List ℕ) → length ks ≡ 3 → Below 6 ks → lineBlock 6 1 (linesMod 6 withZero) ≡ 0 ∷ ks
     → buffer withZeroCalls (x ∷ x ∷ x ∷ x ∷ []) ≡ word headKind 0 ∷ wordsOf multiplierKind ks
-unfolding sheetFrom fresh sheetAfter ledgerOf bufferAfter memoryAfter refusalOf wordsIn residueOf equationsOf answerWords
-with-zero-fits x [] l e = absurd (omega arith)
-with-zero-fits x (a ∷ []) l e = absurd (omega arith)
-with-zero-fits x (a ∷ b ∷ []) l e = absurd (omega arith)
-with-zero-fits x (a ∷ b ∷ c ∷ []) l e = rw e refl
-with-zero-fits x (a ∷ b ∷ c ∷ d ∷ ks) l e = absurd (omega arith)
+unfolding sheetFrom fresh sheetAfter ledgerOf bufferAfter memoryAfter refusalOf wordsIn residueOf equationsOf answerWords carries
+    wordsFor answerRoom
+with-zero-fits x [] l below e = absurd (omega arith)
+with-zero-fits x (a ∷ []) l below e = absurd (omega arith)
+with-zero-fits x (a ∷ b ∷ []) l below e = absurd (omega arith)
+with-zero-fits x (a ∷ b ∷ c ∷ []) l below e =
+    let ks = a ∷ b ∷ c ∷ [] in
+    rw e
+    (over-whole (word headKind 0 ∷ wordsOf multiplierKind ks) (x ∷ x ∷ x ∷ x ∷ [])
+    (ap suc (written-one multiplierKind ks (below-mono 6 numbersOfAKind ks (omega arith) below))))
+with-zero-fits x (a ∷ b ∷ c ∷ d ∷ ks) l below e = absurd (omega arith)
 
 -- "Add x=0: none": head 0, with multipliers that serve; so do 0 1 3
 pub with-zero-answered : (x : ℕ) → (ks : List ℕ) × (refutes 6 1 withZero ks ≡ true)
@@ -235,17 +246,17 @@ pub with-zero-answered : (x : ℕ) → (ks : List ℕ) × (refutes 6 1 withZero 
 with-zero-answered x = (
   withZeroMultipliers,
   true-of _ with-zero-refutes,
-  with-zero-fits x withZeroMultipliers (refutes-is 6 1 withZero withZeroMultipliers .0 with-zero-refutes .one-each) with-zero-lines,
+  with-zero-fits x withZeroMultipliers (with-zero-refuted .one-each) (with-zero-refuted .below) with-zero-lines,
 )
 
 pub with-zero-held : ledgerOf (after withZeroCalls) ≡ opened 6 1 (linesMod 6 withZero)
-unfolding sheetFrom fresh sheetAfter ledgerOf refusalOf wordsIn residueOf equationsOf
+unfolding sheetFrom fresh sheetAfter ledgerOf refusalOf wordsIn residueOf equationsOf carries wordsFor
 with-zero-held = refl
 
 -- "Strike: from 5 again."
 pub struck-answered : (x y z : ℕ) → buffer struckCalls (x ∷ y ∷ z ∷ []) ≡ block 1 (5 ∷ []) ++ (z ∷ [])
 unfolding sheetFrom fresh sheetAfter ledgerOf bufferAfter memoryAfter refusalOf wordsIn residueOf equationsOf answerWords lineBlock
-    lineStart lineSteps flatten
+    lineStart lineSteps flatten carries wordsFor answerRoom
 struck-answered x y z = refl
 
 -- "0x=0 changes nothing": for every m, n and list, wherever it stands there

@@ -5,15 +5,16 @@ use mathlib.Core.Option.{none, some}
 use mathlib.Core.Bool.{true}
 use mathlib.Core.Path.{_≡_, refl}
 use Prim.Native.Nat.{ℕ}
+use Rattle.words.specs.Fronts.{firstLength, frontLength}
 use Rattle.questions.specs.Reply.{memoryAfter}
 use Rattle.residue.specs.Residue.{residueOf}
 use Rattle.equations.specs.Lines.{equationsOf}
 use Rattle.equations.specs.Multipliers.{refutes}
 use Rattle.equations.specs.Line.{Line, lineStart, lineSteps, lineRefutes}
 use Rattle.system.specs.Lines.{lineBlock}
-use Rattle.words.specs.Words.{word, wordsIn, strikeKind, answerKind}
+use Rattle.words.specs.Words.{word, wordsIn, strikeKind, carries, wordsFor}
 use Rattle.ledger.specs.Ledger.{Ledger, unopened, opened}
-use Rattle.ledger.specs.Block.{answerWords}
+use Rattle.ledger.specs.Block.{answerWords, answerRoom}
 use Rattle.ledger.specs.Calls.{adds, strikes, answersFromTape, Call, enters, queries}
 use Rattle.ledger.specs.Questions.{refusalOf}
 use Rattle.ledger.specs.History.{enter}
@@ -57,18 +58,18 @@ abbrev pub middleCalls : List Call
 middleCalls = threeCalls ++ (enters (strikes 2) ∷ [])
 
 pub middle-held : ledgerOf (after middleCalls) ≡ opened 12 1 (is 3 2 ∷ is 2 1 ∷ [])
-unfolding sheetFrom fresh sheetAfter ledgerOf refusalOf wordsIn residueOf equationsOf
+unfolding sheetFrom fresh sheetAfter ledgerOf refusalOf wordsIn residueOf equationsOf carries wordsFor
 middle-held = refl
 
 -- from 11 before, from 5 by steps of 6 then
 pub three-answered : (x y z : ℕ) → buffer threeCalls (x ∷ y ∷ z ∷ []) ≡ block 1 (11 ∷ []) ++ (z ∷ [])
 unfolding sheetFrom fresh sheetAfter ledgerOf bufferAfter memoryAfter refusalOf wordsIn residueOf equationsOf answerWords lineBlock
-    lineStart lineSteps flatten
+    lineStart lineSteps flatten carries wordsFor answerRoom
 three-answered x y z = refl
 
 pub middle-answered : (x y z : ℕ) → buffer middleCalls (x ∷ y ∷ z ∷ []) ≡ block 2 (5 ∷ 6 ∷ [])
 unfolding sheetFrom fresh sheetAfter ledgerOf bufferAfter memoryAfter refusalOf wordsIn residueOf equationsOf answerWords lineBlock
-    lineStart lineSteps flatten
+    lineStart lineSteps flatten carries wordsFor answerRoom
 middle-answered x y z = refl
 
 -- ---- without a solution: x = 0 mod 2, x = 2 mod 3, x = 1 mod 2
@@ -110,10 +111,11 @@ seven place = (refl, refl)
 -- one word, with its place; an answer's number still is 0
 pub strike-first : (ws : List ℕ)
     → (firstCall three (word strikeKind 2 ∷ ws) ≡ enters (strikes 2)) × (behindFirst three (word strikeKind 2 ∷ ws) ≡ ws)
-unfolding firstCall behindFirst
-strike-first ws = (refl, refl)
+unfolding firstCall behindFirst wordsIn carries wordsFor firstLength frontLength
+strike-first [] = (refl, refl)
+strike-first (w ∷ ws) = (refl, refl)
 
 pub answer-plain :
-    (refusalOf three (queries (answersFromTape (word answerKind 0))) ≡ 0) × (refusalOf three (queries (answersFromTape (word answerKind 1))) ≡ 1)
+    (refusalOf three (queries (answersFromTape 0)) ≡ 0) × (refusalOf three (queries (answersFromTape 1)) ≡ 1)
 unfolding refusalOf
 answer-plain = (refl, refl)

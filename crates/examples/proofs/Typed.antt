@@ -8,7 +8,7 @@ use Prim.Native.Nat.{ℕ}
 use Prim.Native.String.{String}
 use Rattle.equations.specs.Equation.{Equation}
 use Rattle.equations.specs.Line.{linesMod}
-use Rattle.words.specs.Words.{wordsIn}
+use Rattle.words.specs.Words.{wordsIn, carries, wordsFor}
 use Rattle.grammar.specs.Tree.{number, unknown, minus, sum, difference, product}
 use Rattle.grammar.specs.Linear.{equationOf}
 use Rattle.grammar.specs.Texts.{typedOf, isTyped, equationIn}
@@ -35,7 +35,7 @@ paper-tree = refl
 
 -- mod 12 with three unknowns it adds 4·x1 + 6·x2 + x3 = 5: through the calls, from a fresh sheet's ledger on
 pub paper-added : ledger (opening 12 3 ∷ enters (types paperText) ∷ []) ≡ opened 12 3 (linesMod 12 (equation (4 ∷ 6 ∷ 1 ∷ []) 5 ∷ []))
-unfolding ledgerFrom enter refusalOf wordsIn typedOf sidesOf expressionOf expressionIn equationOf
+unfolding ledgerFrom enter refusalOf wordsIn typedOf sidesOf expressionOf expressionIn equationOf carries wordsFor
 paper-added = refl
 
 -- and mod 7 another one

@@ -32,7 +32,7 @@ use Rattle.ledger.specs.Shapes.{isEquation, ownModulus, equationWords}
 use Rattle.ledger.specs.Calls.{Entry, opens, adds, types, strikes, enters}
 use Rattle.ledger.specs.Questions.{allowedUnknowns, refusalOf}
 use Rattle.ledger.specs.History.{Effect, begins, gains, loses, struckAt, effectOf, changed, enter}
-use Rattle.ledger.proofs.Shapes.{equation-length, behindOwn, equation-memory}
+use Rattle.ledger.proofs.Shapes.{equation-length}
 use Rattle.ledger.proofs.Questions.{accepted-yes}
 
 pub record Gains (l : Ledger) (line : Line) : Type 0 where
@@ -50,13 +50,8 @@ Allows l (gains line) = Gains l line
 Allows l (loses j) = T (isOpened l) × (j < length (linesIn l))
 
 -- the residues of a well-formed equation's words: n coefficients and a right side
-pub residues-long : (q n : ℕ) (ws : List ℕ) → T (isEquation n (equationWords (wordsIn ws)))
-    → length (residuesOf q (equationWords (wordsIn ws))) ≡ n + 1
-residues-long q n ws shape =
-    ap (λ (words : List Word). length (residuesOf q words)) (equation-memory ws)
-    ∙ residues-count q (behindOwn ws)
-    ∙ equation-length n (behindOwn ws)
-    (ap (isEquation n) (sym (equation-memory ws)) ∙ true-of (isEquation n (equationWords (wordsIn ws))) shape)
+pub residues-long : (q n : ℕ) (words : List Word) → T (isEquation n words) → length (residuesOf q words) ≡ n + 1
+residues-long q n words shape = residues-count q words ∙ equation-length n words (true-of (isEquation n words) shape)
 
 -- ---- what is let through
 
@@ -66,20 +61,20 @@ struck-within held zero some within = omega (arith, some)
 struck-within held (suc j) some within = omega (arith, within)
 
 pub accepted-allows : (l : Ledger) (e : Entry) → refusalOf l (enters e) ≡ 0 → Allows l (effectOf l e)
-accepted-allows l (opens ws) none = let yes = accepted-yes l (enters (opens ws)) none in (yes .1 .0, yes .1 .1 .0)
+accepted-allows l (opens ws) none = let yes = accepted-yes l (enters (opens ws)) none in (yes .1 .1 .0, yes .1 .1 .1 .0)
 accepted-allows l (adds ws) none =
     let yes = accepted-yes l (enters (adds ws)) none in
     let n = unknownsOf l in
     let q = ownModulus (modulusOf l) (wordsIn ws) in
     let words = equationWords (wordsIn ws) in
     let residues = residuesOf q words in
-    let long : length residues ≡ n + 1 = residues-long q n ws (yes .1 .0) in
-    let pos : 0 < q = omega (arith, own-least (modulusOf l) q (yes .1 .1 .0)) in
+    let long : length residues ≡ n + 1 = residues-long q n words (yes .1 .1 .0) in
+    let pos : 0 < q = omega (arith, own-least (modulusOf l) q (yes .1 .1 .1 .0)) in
     record {
       opened = yes .0;
-      under = ltb→lt (length (linesIn l)) mostEquations (yes .1 .1 .1 .0);
+      under = ltb→lt (length (linesIn l)) mostEquations (yes .1 .1 .1 .1 .0);
       shaped = length-take-le n residues (omega (arith, long));
-      own = λ two. yes .1 .1 .0;
+      own = λ two. yes .1 .1 .1 .0;
       coefficients = λ two. below-take q n residues (residues-below q words pos);
       right = λ two. below-at q n residues (residues-below q words pos) (omega (arith, long));
     }

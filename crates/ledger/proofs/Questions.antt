@@ -12,7 +12,7 @@ use Rattle.questions.proofs.Questions.{numbered, AllYes, all-yes}
 use Rattle.questions.proofs.Given.{TurnsAway, alone, given-exactly}
 use Rattle.ledger.specs.Ledger.{Ledger, unopened}
 use Rattle.ledger.specs.Calls.{opens, adds, types, strikes}
-use Rattle.ledger.specs.Calls.{answers, answersFromTape, marks, reasons, classes, meaningless}
+use Rattle.ledger.specs.Calls.{answers, answersFromTape, marks, reasons, classes, meaningless, misplaced}
 use Rattle.ledger.specs.Calls.{Call, enters, queries}
 use Rattle.ledger.specs.Questions.{questions, refusalOf}
 
@@ -22,11 +22,12 @@ numbered-always l (enters (adds ws)) = tt
 numbered-always l (enters (types text)) = tt
 numbered-always l (enters (strikes place)) = tt
 numbered-always l (queries (answers buffer)) = tt
-numbered-always l (queries (answersFromTape w)) = tt
+numbered-always l (queries (answersFromTape number)) = tt
 numbered-always l (queries (marks ws)) = tt
 numbered-always l (queries (reasons ws buffer)) = tt
 numbered-always l (queries (classes ws bytes)) = tt
-numbered-always l (queries (meaningless w)) = tt
+numbered-always l (queries (meaningless ws)) = tt
+numbered-always l (queries (misplaced ws)) = tt
 
 pub accepted-yes : (l : Ledger) (c : Call) → refusalOf l c ≡ 0 → AllYes (questions l c)
 unfolding refusalOf

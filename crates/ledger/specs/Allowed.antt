@@ -13,7 +13,7 @@ Residues [] = Unit {0}
 Residues (l ∷ ls) =
     (2 ≤ l .modulus) × Below (l .modulus) (l .equation .coefficients) × (l .equation .right < l .modulus) × Residues ls
 
--- "m is 2..65,535. Unknowns n: 1..16. Equations: 0..16."; each line has "a modulus q that divides the sheet's m"
+-- "m in 2..4,294,967,295"; "Unknowns n: 1..16. Equations: 0..16."; each line has "a modulus q that divides the sheet's m"
 pub record Allowed (m n : ℕ) (ls : List Line) : Type 0 where
   pub modulus : 2 ≤ m
   pub largest : m ≤ largestModulus

@@ -5,9 +5,11 @@ use mathlib.Core.List.{List, [], _∷_}
 use Prim.Native.Nat.{ℕ, _+_, _*_, _<_}
 use native.Mathlib.Omega.{arith}
 use lib.Dec.{eqb, leb}
-use lib.ListN.{length, take, drop, getD, length-drop}
+use lib.ListN.{length, length-drop}
 use Rattle.slices.specs.Pieces.{pieces, pieces-none, pieces-step}
-use Rattle.words.specs.Words.{wordOf, headKind}
+use Rattle.words.specs.declared.unpacking.Word.{Word}
+use Rattle.words.specs.Words.{headKind}
+use Rattle.words.specs.Fronts.{firstWord, frontLength, front, behind, front-some}
 use Rattle.ledger.specs.Shapes.{largestHead, claimLength}
 
 -- "up to 64 claims"
@@ -16,15 +18,15 @@ mostClaims = 64
 
 -- how many words a claim takes by its first one: "Each claim's length is taken as on the tape; a word of another kind where a head
 -- should stand is a claim of one word"
-abbrev pub claimWords : ℕ → ℕ → ℕ
-claimWords n w = cond (eqb (wordOf w .kind) headKind) (claimLength n (wordOf w .number)) 1
+abbrev pub claimWords : ℕ → Word → ℕ
+claimWords n first = cond (eqb (first .kind) headKind) (claimLength n (first .number)) 1
 
--- the first claim, all words where fewer remain, and the words behind it
+-- the memory of the first claim, all words where fewer remain, and what lies behind it
 abbrev pub firstClaim : ℕ → List ℕ → List ℕ
-firstClaim n ws = take (claimWords n (getD ws 0 0)) ws
+firstClaim n ws = front (claimWords n (firstWord ws)) ws
 
 abbrev pub behindClaim : ℕ → List ℕ → List ℕ
-behindClaim n ws = drop (claimWords n (getD ws 0 0)) ws
+behindClaim n ws = behind (claimWords n (firstWord ws)) ws
 
 -- the claims that lie in words, for n unknowns
 unfoldable pub claimsIn : ℕ → List ℕ → List (List ℕ)
@@ -43,12 +45,16 @@ some-or-one false k some = omega arith
 pub length-some : (n head : ℕ) → 0 < claimLength n head
 length-some n head = some-or-one (leb head largestHead) (1 + n * head) (omega arith)
 
-pub claim-takes : (n w : ℕ) → 0 < claimWords n w
-claim-takes n w = some-or-one (eqb (wordOf w .kind) headKind) (claimLength n (wordOf w .number)) (length-some n (wordOf w .number))
+pub claim-takes : (n : ℕ) (first : Word) → 0 < claimWords n first
+claim-takes n first = some-or-one (eqb (first .kind) headKind) (claimLength n (first .number)) (length-some n (first .number))
 
 -- the first claim, and the claims behind it
 pub claims-first : (n : ℕ) (ws : List ℕ) → 0 < length ws → claimsIn n ws ≡ firstClaim n ws ∷ claimsIn n (behindClaim n ws)
 unfolding claimsIn
 claims-first n ws some =
     pieces-step firstClaim (λ k xs. k) behindClaim
-    (λ k x xs. omega (arith, length-drop (claimWords k x) (x ∷ xs), claim-takes k x)) n ws some
+    (λ k w xs. omega (
+      arith,
+      length-drop (frontLength (claimWords k (firstWord (w ∷ xs))) (w ∷ xs)) (w ∷ xs),
+      front-some (claimWords k (firstWord (w ∷ xs))) w xs (claim-takes k (firstWord (w ∷ xs))),
+    )) n ws some

@@ -1,24 +1,18 @@
 -- The questions of milebadger_solve, and what it says of a list of equations that all are answered with yes.
---   number-largest   any number of 32 bits is a modulus that is not too large
 --   posed            all have, so that the arguments may be handed on
-use mathlib.Core.Path.{_≡_, sym, ap, _∙_}
-use mathlib.Core.Bool.{Bool, _&&_, and-true}
+use mathlib.Core.Path.{_≡_}
 use mathlib.Core.List.{List}
 use Prim.Native.Nat.{ℕ, _+_, _*_, _/_, _%_, _≤_}
 use native.Mathlib.Nat.{div-add-mod', mul-le-mul-right}
 use native.Mathlib.Omega.{arith}
-use borrow.Author.Tests.{le-leb}
 use lib.Dec.{eqb→eq, leb, leb→le}
 use lib.ListN.{length}
 use mir.Facts.{and-yes}
-use Rattle.questions.specs.Questions.{firstNo}
-use Rattle.questions.proofs.Questions.{all-yes}
+use Rattle.questions.specs.Questions.{firstNo, largestModulus}
+use Rattle.questions.proofs.Questions.{all-yes, within-range}
 use Rattle.equations.proofs.Vectors.{all-below}
 use Rattle.system.specs.Posed.{Posed}
-use Rattle.milebadger.specs.Calls.{largestNumber, solveQuestions}
-
-pub number-largest : (m : ℕ) → m ≤ largestNumber → leb 2 m ≡ (leb 2 m && leb m largestNumber)
-number-largest m small = sym (ap (λ (b : Bool). leb 2 m && b) (le-leb m largestNumber small) ∙ and-true (leb 2 m))
+use Rattle.milebadger.specs.Calls.{solveQuestions}
 
 lines-fit : (n size : ℕ) → size % (n + 1) ≡ 0 → size / (n + 1) ≤ 16 → size ≤ 16 * (n + 1)
 lines-fit n size whole few =
@@ -27,11 +21,11 @@ lines-fit n size whole few =
 pub posed : (m n : ℕ) (xs : List ℕ) → firstNo (solveQuestions m n xs) ≡ 0 → Posed m n xs
 posed m n xs none =
     let yes = all-yes (solveQuestions m n xs) tt none in
-    let modulus = and-yes (leb 2 m) (leb m largestNumber) (yes .0) in
+    let modulus = within-range 2 m largestModulus .0 (yes .0) in
     let unknowns = and-yes (leb 1 n) (leb n 16) (yes .1 .0) in
     let whole = eqb→eq (length xs % (n + 1)) 0 (yes .1 .1 .0) in
     record {
-      modulus = omega (arith, leb→le 2 m (modulus .0));
+      modulus = modulus .0;
       hasUnknowns = omega (arith, leb→le 1 n (unknowns .0));
       unknowns = leb→le n 16 (unknowns .1);
       whole = whole;

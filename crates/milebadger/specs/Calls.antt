@@ -2,13 +2,13 @@
 -- lent. Definitions only.
 use mathlib.Core.Path.{_≡_}
 use Prim.Native.Nat.{ℕ, _+_, _/_, _%_}
-use mathlib.Core.Bool.{cond, _&&_}
+use mathlib.Core.Bool.{cond}
 use mathlib.Core.List.{List, [], _∷_, _++_}
 use lib.Dec.{eqb, leb}
 use lib.IntN.{ℤ, pos, negℤ}
 use lib.ListN.{length}
 use Rattle.residue.specs.Chain.{chainOf}
-use Rattle.questions.specs.Questions.{Question, asks, firstNo, unlessRefused}
+use Rattle.questions.specs.Questions.{Question, asks, firstNo, unlessRefused, allowedModulus}
 use Rattle.questions.specs.Reply.{Reply, gives, refuses, resultOf, memoryAfter}
 use Rattle.slices.specs.Over.{over}
 use Rattle.congruence.specs.declared.Solved.{Solved}
@@ -41,11 +41,11 @@ use Rattle.tape.specs.Output.{mostBytes, lines}
 abbrev pub minus : ℕ → ℤ
 minus k = negℤ (pos k)
 
--- 10,000 times the major, 100 times the minor and the patch number: 3.0.0
+-- 10,000 times the major, 100 times the minor and the patch number: 4.0.0
 abbrev pub version : ℕ
-version = 30000
+version = 40000
 
--- What the calls on a sheet give back, as a result: "the equations then held", how many words the block has, 1 for a pass, 2 for a
+-- What the calls on a sheet give back, as a result: "the equations then held", how many memory words the block has, 1 for a pass, 2 for a
 -- long claim and 0 for a fail, or how many claims a class has; or minus the number of the refusal.
 unfoldable pub enteredResult : Entered → ℤ
 enteredResult (Holds k) = pos k
@@ -68,7 +68,7 @@ unfoldable pub reasonedResult : Reasoned → ℤ
 reasonedResult (Gives reason k) = pos (reasonNumber reason)
 reasonedResult (Reasoned·Refused k) = minus k
 
--- A reason has a second lent memory, `at`, for the step, the equation and the number of words. Where it has fewer than 3 numbers, the claim is
+-- A reason has a second lent memory, `at`, for the step, the equation and the number of memory words. Where it has fewer than 3 numbers, the claim is
 -- turned away with 8, behind the questions of marking, and nothing is written.
 abbrev pub placeRoom : ℕ
 placeRoom = 3
@@ -105,15 +105,11 @@ solvedReply (Solutions t spacing) = gives (pos 1) (t ∷ spacing ∷ [])
 abbrev pub congruenceReply : ℤ → ℤ → ℕ → Reply ℤ
 congruenceReply a b m = solvedReply (congruenceOf a b m)
 
--- the largest modulus of a system: any that 32 bits hold
-abbrev pub largestNumber : ℕ
-largestNumber = 4294967295
-
 -- Our own call's questions, in this order: m in 2..4,294,967,295? 2. n 1..16? 3. `lines` a multiple of n+1 long? 1. At most
 -- 16 lines? 5. All numbers below m? 6.
 abbrev pub solveQuestions : ℕ → ℕ → List ℕ → List Question
 solveQuestions m n xs =
-    asks 2 (leb 2 m && leb m largestNumber)
+    asks 2 (allowedModulus m)
     ∷ asks 3 (allowedUnknowns n)
     ∷ asks 1 (eqb (length xs % (n + 1)) 0)
     ∷ asks 5 (leb (length xs / (n + 1)) mostEquations)
@@ -129,7 +125,7 @@ unfoldable pub solveReply : ℕ → ℕ → List ℕ → Reply ℤ
 solveReply m n xs =
     unlessRefused refuses (firstNo (solveQuestions m n xs)) (blockReply (blockOf m n (equationsOf n xs)))
 
--- what the safe's call gives back, as a result: the words written, 0 for none, or minus the number of the refusal
+-- what the safe's call gives back, as a result: the memory words written, 0 for none, or minus the number of the refusal
 unfoldable pub turnedResult : Turned → ℤ
 turnedResult (Wrote k) = pos k
 turnedResult NoTurns = pos 0

@@ -28,8 +28,8 @@ const FEW: u32 = 4;
 
 const FEW_NUMBERS: usize = 20;
 
-// The header's: 10,000 · 2 + 100 · 4 + 0.
-const VERSION: u32 = 30000;
+// The header's: 10,000 · 4 + 100 · 0 + 0.
+const VERSION: u32 = 40000;
 
 #[no_mangle]
 pub extern "C" fn milebadger_version() -> u32

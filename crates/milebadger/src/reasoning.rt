@@ -37,7 +37,7 @@ pub(crate) fn places_missing(sheet: &[u32; Sheet::SIZE], words: &[u32]) -> i64
 
 // The reason's number, with the three numbers written.
 pub(crate) fn give_reason(reason: Reason, written: usize, at: &mut [u32]) -> i64
-    requires { ⌜ (placeRoom ≤ length (now at)) × (written ≤ 16) ⌝ }
+    requires { ⌜ (placeRoom ≤ length (now at)) × (written ≤ 32) ⌝ }
     ensures { λ r. ⌜ r ≡ pos (reasonNumber reason) ⌝ }
     ensures { λ _. ⌜ now (at .exit) ≡ over (placesIn reason ++ (written ∷ [])) (now (at .entry)) ⌝ }
 {

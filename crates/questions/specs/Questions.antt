@@ -21,9 +21,9 @@ firstNo (q ∷ qs) = cond (q .yes) (firstNo qs) (q .number)
 abbrev pub unlessRefused : {A : Type 0} → (ℕ → A) → ℕ → A → A
 unlessRefused refuse number answer = cond (eqb number 0) answer (refuse number)
 
--- "m is 2..65,535"
+-- "take m in 2..4,294,967,295, so 65,536 now opens"
 abbrev pub largestModulus : ℕ
-largestModulus = 65535
+largestModulus = 4294967295
 
 abbrev pub allowedModulus : ℕ → Bool
 allowedModulus m = leb 2 m && leb m largestModulus

@@ -6,21 +6,25 @@ use lib.Dec.{leb}
 use lib.ListN.{length}
 use Rattle.slices.specs.Over.{over}
 
--- a result, with the numbers that go to the front of the memory; or a refusal with its number
+-- a result, with the numbers that go to the front of the memory, and how much room question 8 asks for; or a refusal with its number
 pub data Reply (A : Type 0) : Type 0 where
-  gives : A → List ℕ → Reply A
+  givesIn : ℕ → A → List ℕ → Reply A
   refuses : ℕ → Reply A
 
--- "Buffer long enough for this block? 8": for these numbers, where the memory holds `old`
-abbrev pub fits : List ℕ → List ℕ → Bool
-fits xs old = leb (length xs) (length old)
+-- where the room is that of the numbers
+abbrev pub gives : {A : Type 0} → A → List ℕ → Reply A
+gives result xs = givesIn (length xs) result xs
+
+-- "Buffer long enough for this block? 8": for so much room, where the memory holds `old`
+abbrev pub fits : ℕ → List ℕ → Bool
+fits room old = leb room (length old)
 
 -- What the call returns: its result, or the refusal in the form that the caller gets. 8 is asked last.
 unfoldable pub resultOf : {A : Type 0} → (ℕ → A) → Reply A → List ℕ → A
-resultOf refuse (gives result xs) old = cond (fits xs old) result (refuse 8)
+resultOf refuse (givesIn room result xs) old = cond (fits room old) result (refuse 8)
 resultOf refuse (refuses k) old = refuse k
 
 -- What the memory holds then. "Buffer words past the block keep their content"; at a refusal all of it does.
 unfoldable pub memoryAfter : {A : Type 0} → Reply A → List ℕ → List ℕ
-memoryAfter (gives result xs) old = cond (fits xs old) (over xs old) old
+memoryAfter (givesIn room result xs) old = cond (fits room old) (over xs old) old
 memoryAfter (refuses k) old = old

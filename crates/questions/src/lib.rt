@@ -3,12 +3,11 @@ ghost use mathlib.Core.Path.{_≡_};
 ghost use mathlib.Core.List.{[], _∷_};
 ghost use Rattle.questions.specs.Questions.{asks, firstNo, unlessRefused, allowedModulus, allowedOwn};
 
-const LARGEST_MODULUS: u32 = 65535;
-
+// Any modulus that 32 bits hold, from 2 on.
 pub fn is_modulus(m: u32) -> bool
     ensures { λ r. ⌜ r ≡ allowedModulus m ⌝ }
 {
-    2 <= m && m <= LARGEST_MODULUS
+    2 <= m
 }
 
 // Whether a line on a sheet mod m may have the modulus q.

@@ -1,8 +1,7 @@
 -- What the call gives back and leaves, case by case.
 --   no-turns, too-short, wrote   no turns open the safe; the buffer is too short for them; it is long enough
 --   refused, let-in              a question about the arguments has the answer no; none has
---   turns-length, turns-small    how many turns there are, and that they fit a word
---   words-few                    the call writes at most 16 words
+--   words-few                    the call writes at most 32 memory words
 use mathlib.Core.Bool.{Bool, true, false, cond}
 use mathlib.Core.List.{List}
 use mathlib.Core.Option.{Option, none, some}
@@ -10,13 +9,13 @@ use mathlib.Core.Path.{_≡_, refl, subst}
 use Prim.Native.Nat.{ℕ, zero, suc, _*_, _≤_, _<_}
 use native.Mathlib.Omega.{arith}
 use borrow.Author.Tests.{eq-eqb, ne-eqb, le-leb, lt-leb}
-use lib.ListN.{length, length-map}
+use lib.ListN.{length}
 use Rattle.slices.specs.Over.{over}
-use Rattle.questions.specs.Questions.{firstNo, unlessRefused, largestModulus}
+use Rattle.questions.specs.Questions.{firstNo, unlessRefused}
 use Rattle.questions.specs.Reply.{refuses, fits, resultOf, memoryAfter}
-use Rattle.equations.specs.Vectors.{Below}
-use Rattle.equations.proofs.Vectors.{vector-length, vector-below, below-mono}
-use Rattle.words.specs.Words.{numbersOfAKind, entryKind, wordsIn, word, numbersOf, wordsOf}
+use Rattle.equations.proofs.Vectors.{vector-length}
+use Rattle.words.specs.Words.{entryKind, wordsIn, numbersOf, wordsOf}
+use Rattle.words.proofs.Packed.{written-two}
 use Rattle.safe.specs.declared.Turned.{Turned}
 use Rattle.safe.specs.declared.Turned.the-variants.{Wrote, NoTurns, Refused}
 use Rattle.safe.specs.Turns.{turnsOf}
@@ -35,17 +34,14 @@ module _ {turns : Option (List ℕ)} (old : List ℕ) where
       (rw (are, fit), rw (are, fit))
 
   module _ (vs : List ℕ) (are : turns ≡ some vs) where
-    pub too-short : length old < length vs → Gives (found turns) old (Refused 8) old
+    pub too-short : length old < length (wordsOf entryKind vs) → Gives (found turns) old (Refused 8) old
     unfolding resultOf memoryAfter
-    too-short short =
-        let no = lt-leb (length (wordsOf entryKind vs)) (length old) (omega (arith, length-map vs (word entryKind))) in
-        (rw (are, no), rw (are, no))
+    too-short short = let no = lt-leb (length (wordsOf entryKind vs)) (length old) short in (rw (are, no), rw (are, no))
 
-    pub wrote : length vs ≤ length old → Gives (found turns) old (Wrote (length vs)) (over (wordsOf entryKind vs) old)
+    pub wrote : length (wordsOf entryKind vs) ≤ length old
+        → Gives (found turns) old (Wrote (length (wordsOf entryKind vs))) (over (wordsOf entryKind vs) old)
     unfolding resultOf memoryAfter
-    wrote long =
-        let yes = le-leb (length (wordsOf entryKind vs)) (length old) (omega (arith, length-map vs (word entryKind))) in
-        (rw (are, yes), rw (are, yes))
+    wrote long = let yes = le-leb (length (wordsOf entryKind vs)) (length old) long in (rw (are, yes), rw (are, yes))
 
 module _ (m rows columns : ℕ) (values old : List ℕ) (number : ℕ)
     (is : number ≡ firstNo (argumentQuestions m rows columns values)) where
@@ -61,14 +57,8 @@ module _ (m rows columns : ℕ) (values old : List ℕ) (number : ℕ)
 
 -- ---- the turns as words
 
-module _ (m rows columns : ℕ) (values vs : List ℕ) (are : turnsOf m rows columns values ≡ some vs) where
-  pub turns-length : length vs ≡ rows * columns
-  turns-length = vector-length m (rows * columns) vs (wanted m rows columns values vs .0 are .vector)
-
-  pub turns-small : m ≤ largestModulus → Below numbersOfAKind vs
-  turns-small h =
-      below-mono m numbersOfAKind vs (omega arith)
-      (vector-below m (rows * columns) vs (wanted m rows columns values vs .0 are .vector))
+turns-length : (m rows columns : ℕ) (values vs : List ℕ) → turnsOf m rows columns values ≡ some vs → length vs ≡ rows * columns
+turns-length m rows columns values vs are = vector-length m (rows * columns) vs (wanted m rows columns values vs .0 are .vector)
 
 -- ---- how many words are written
 
@@ -78,13 +68,13 @@ written NoTurns = 0
 written (Refused k) = 0
 
 few-found : (o : Option (List ℕ)) (old : List ℕ) → ((vs : List ℕ) → o ≡ some vs → length vs ≤ mostLocks)
-    → written (resultOf Refused (found o) old) ≤ mostLocks
+    → written (resultOf Refused (found o) old) ≤ 2 * mostLocks
 unfolding resultOf
 few-found none old few = rw (le-leb 0 (length old) (omega arith)) (omega arith)
-few-found (some vs) old few = either (fits (wordsOf entryKind vs) old)
+few-found (some vs) old few = either (fits (length (wordsOf entryKind vs)) old)
   where
-    either : (b : Bool) → written (cond b (Wrote (length vs)) (Refused 8)) ≤ mostLocks
-    either true = few vs refl
+    either : (b : Bool) → written (cond b (Wrote (length (wordsOf entryKind vs))) (Refused 8)) ≤ 2 * mostLocks
+    either true = omega (arith, written-two entryKind vs, few vs refl)
     either false = omega arith
 
 module _ (m rows columns : ℕ) (values old : List ℕ) where
@@ -92,7 +82,7 @@ module _ (m rows columns : ℕ) (values old : List ℕ) where
   turns = turnsOf m rows columns (numbersOf (wordsIn values))
 
   few-given : (number : ℕ) → firstNo (argumentQuestions m rows columns values) ≡ number
-      → written (resultOf Refused (unlessRefused refuses number (found turns)) old) ≤ mostLocks
+      → written (resultOf Refused (unlessRefused refuses number (found turns)) old) ≤ 2 * mostLocks
   unfolding resultOf
   few-given zero h = few-found turns old few
     where
@@ -102,7 +92,7 @@ module _ (m rows columns : ℕ) (values old : List ℕ) where
           omega (arith, turns-length m rows columns (numbersOf (wordsIn values)) vs are, safe .count, safe .few)
   few-given (suc number) h = rw (ne-eqb (suc number) 0 (λ e. omega arith)) (omega arith)
 
-  pub words-few : (k : ℕ) → turnedOf m rows columns values old ≡ Wrote k → k ≤ mostLocks
+  pub words-few : (k : ℕ) → turnedOf m rows columns values old ≡ Wrote k → k ≤ 2 * mostLocks
   unfolding turnedOf turnsReply
   words-few k is =
-      subst (λ (t : Turned). written t ≤ mostLocks) is (few-given (firstNo (argumentQuestions m rows columns values)) refl)
+      subst (λ (t : Turned). written t ≤ 2 * mostLocks) is (few-given (firstNo (argumentQuestions m rows columns values)) refl)

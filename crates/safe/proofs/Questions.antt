@@ -21,9 +21,10 @@ use Rattle.equations.specs.Vectors.{sameVector}
 use Rattle.equations.specs.Multipliers.{allBelow}
 use Rattle.equations.proofs.Truth.{true-of}
 use Rattle.equations.proofs.Vectors.{all-below}
+use Rattle.words.specs.declared.unpacking.Word.{Word}
 use Rattle.words.specs.Words.{entryKind, wordsIn, kindsOf, numbersOf, haveKinds}
 use Rattle.words.proofs.Compared.{kinds-length}
-use Rattle.words.proofs.Words.{kindOf, numberOf, kinds-count, numbers-count}
+use Rattle.words.proofs.Words.{kindOf, numberOf, parts-count}
 use Rattle.words.proofs.Unpacked.{kinds-seen, parts-seen}
 use Rattle.safe.specs.Calls.{mostLocks, allowedSize, argumentQuestions}
 use Rattle.safe.specs.Model.Handed.{valuesRoom, Lockable}
@@ -39,13 +40,13 @@ size-allowed rows columns t =
 
 -- ---- the words
 
-pub values-count : (n : ℕ) (values : List ℕ) → T (haveKinds (wordsIn values) (replicate n entryKind)) → n ≡ length values
-values-count n values t =
-    let same = true-of (haveKinds (wordsIn values) (replicate n entryKind)) t in
+pub values-count : (n : ℕ) (words : List Word) → T (haveKinds words (replicate n entryKind)) → n ≡ length words
+values-count n words t =
+    let same = true-of (haveKinds words (replicate n entryKind)) t in
     omega (
       arith,
-      kinds-length (kindsOf (wordsIn values)) (replicate n entryKind) same,
-      kinds-count values,
+      kinds-length (kindsOf words) (replicate n entryKind) same,
+      parts-count kindOf words,
       length-replicate n entryKind,
     )
 
@@ -79,8 +80,8 @@ module _ (rows columns : ℕ) where
         → new ≡ over (take valuesRoom (numbersOf (wordsIn values))) old
         → allBelow m (take r new) ≡ allBelow m (numbersOf (wordsIn values))
     numbers-asked m shape front =
-        let few : length values ≤ mostLocks =
-        omega (arith, values-count (rows * columns) values shape, size-allowed rows columns size .2) in
+        let few : length (wordsIn values) ≤ mostLocks =
+        omega (arith, values-count (rows * columns) (wordsIn values) shape, size-allowed rows columns size .2) in
         ap (allBelow m) (parts-seen numberOf valuesRoom values old front count (omega (arith, few)))
 
 -- ---- a safe that is let in
@@ -93,7 +94,7 @@ accepted m rows columns values none =
     let size = size-allowed rows columns (yes .1 .0) in
     let some : 0 < rows * columns = mul-pos (size .0) (size .1) in
     let count : rows * columns ≡ length (numbersOf (wordsIn values)) =
-    values-count (rows * columns) values (yes .1 .1 .0) ∙ sym (numbers-count values) in
+    values-count (rows * columns) (wordsIn values) (yes .1 .1 .1 .0) ∙ sym (parts-count numberOf (wordsIn values)) in
     record {
       modulus = modulus .0;
       largest = modulus .1;
@@ -101,5 +102,5 @@ accepted m rows columns values none =
       count = count;
       hasLocks = omega arith;
       few = omega arith;
-      residues = all-below m (numbersOf (wordsIn values)) .0 (yes .1 .1 .1 .0);
+      residues = all-below m (numbersOf (wordsIn values)) .0 (yes .1 .1 .1 .1 .0);
     }

@@ -15,7 +15,7 @@ pub(crate) const LOCKS: usize = 16;
 // So many words are read: one more than locks, which shows that there are too many.
 pub(crate) const VALUES_ROOM: usize = LOCKS + 1;
 
-// What the call gives back: how many words of turns it wrote, that no turns open the safe, or a refusal's number.
+// What the call gives back: how many memory words of turns it wrote, that no turns open the safe, or a refusal's number.
 pub enum Turned {
     Wrote(usize),
     NoTurns,
@@ -32,6 +32,6 @@ pub fn solve(m: u32, rows: u32, columns: u32, values: &[u32], out: &mut [u32]) -
     if number != 0 {
         return Turned::Refused(number);
     }
-    let n = values.len();
+    let n = rows as usize * columns as usize;
     turns_into(m, columns as usize, &numbers[..n], out)
 }

@@ -12,6 +12,7 @@ use system::solving::Answer;
 use system::solving::solve;
 use words::kinds::ENTRY;
 use words::writing::write;
+use words::writing::written_length;
 
 // The turns as words at the front of out, where there are any and out is long enough for them.
 pub(crate) fn turns_into(m: u32, columns: usize, values: &[u32], out: &mut [u32]) -> Turned
@@ -24,12 +25,12 @@ pub(crate) fn turns_into(m: u32, columns: usize, values: &[u32], out: &mut [u32]
         return Turned::NoTurns;
     }
     let n = values.len();
-    if out.len() < n {
+    let turns = answer.numbers;
+    if out.len() < written_length(&turns[..n]) {
         return Turned::Refused(8);
     }
-    let turns = answer.numbers;
-    write(ENTRY, &turns[..n], out);
-    Turned::Wrote(n)
+    let written = write(ENTRY, &turns[..n], out);
+    Turned::Wrote(written)
 }
 
 // The answer's starting vector is the first turns; its head is 0 where no turns open the safe. A line has a number for each lock,

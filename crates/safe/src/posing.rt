@@ -15,6 +15,7 @@ use questions::is_modulus;
 use system::residues::all_below;
 use words::kinds::ENTRY;
 use words::kinds::run_of;
+use words::unpacking::tops_fit;
 use words::unpacking::unpack_into;
 
 // The number of the question that turns the safe away, or 0 where none of these does. The values' numbers go to lent memory. An
@@ -29,7 +30,8 @@ pub(crate) fn refusal(m: u32, rows: u32, columns: u32, values: &[u32], numbers: 
     let wanted = locks(rows as usize, columns as usize);
     let modulus = ask(0, 2, is_modulus(m));
     let size = ask(modulus, 3, 0 < wanted);
-    let shape = ask(size, 1, run_of(&kinds[..count], ENTRY, wanted));
+    let tops = ask(size, 17, tops_fit(values));
+    let shape = ask(tops, 1, run_of(&kinds[..count], ENTRY, wanted));
     ask(shape, 6, all_below(m, &numbers[..count]))
 }
 

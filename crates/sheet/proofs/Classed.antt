@@ -1,14 +1,14 @@
 -- What document 02 says of a class, S-4.
---   right-strays  a word that is no head of at most 17 is a claim of one word and gets 101
+--   right-strays  a word that is no head of at most 17 is a claim of one word and gets 101, or 117
 --   right-class   a class is marked exactly where there are at most 64 claims and bytes enough, and then as each claim is singly
 use mathlib.Core.Path.{_≡_, refl, sym, ap, subst, _∙_}
 use mathlib.Core.Logic.{_↔_, Iff·trans}
-use mathlib.Core.Bool.{Bool, cond}
-use mathlib.Core.List.{List, [], _∷_}
+use mathlib.Core.Bool.{Bool, true, false, cond, _&&_, not}
+use mathlib.Core.List.{List, []}
 use Prim.Native.Nat.{ℕ, zero, suc, _+_, _<_, _≤_}
 use native.Mathlib.Omega.{arith}
 use borrow.Author.Tests.{le-leb, ne-eqb}
-use lib.Dec.{T, ltb, ltb→lt}
+use lib.Dec.{T, eqb, ltb, ltb→lt}
 use lib.ListN.{length, drop, getD, List·getD-append}
 use Rattle.slices.specs.Over.{over}
 use Rattle.slices.proofs.Over.{over-past, over-long}
@@ -20,15 +20,18 @@ use Rattle.equations.specs.Line.{Line}
 use Rattle.equations.specs.Marks.{markNumber}
 use Rattle.equations.specs.Multipliers.{allBelow}
 use Rattle.equations.proofs.Marks.{Apart}
-use Rattle.words.specs.Words.{wordsIn}
+use Rattle.equations.proofs.Truth.{of-true}
+use Rattle.words.specs.Words.{wordsIn, topKind, topsFit}
+use Rattle.words.specs.Fronts.{firstWord, front}
 use Rattle.ledger.specs.Ledger.{Ledger, opened}
 use Rattle.ledger.specs.Shapes.{isClaim, entriesOf, claimFrom}
 use Rattle.ledger.specs.Classes.{mostClaims, claimsIn}
 use Rattle.ledger.specs.Marking.{claimMark}
 use Rattle.ledger.specs.Calls.{marks, classes, queries}
 use Rattle.ledger.specs.Questions.{questions, refusalOf}
+use Rattle.ledger.proofs.Shapes.{claim-tops}
 use Rattle.ledger.proofs.Questions.{refused-exactly}
-use Rattle.ledger.proofs.Classes.{stray-first, stray-shape}
+use Rattle.ledger.proofs.Classes.{stray-first, stray-alone, stray-shape}
 use Rattle.sheet.specs.declared.marking.Marked.the-variants.{Gets, Refused as Marked·Refused}
 use Rattle.sheet.specs.declared.classing.Classed.the-variants.{Claims}
 use Rattle.sheet.specs.Record.{Sheet, ledgerOf}
@@ -70,11 +73,21 @@ module _ (m n : ℕ) (ls : List Line) (ws : List ℕ) where
   asked k i some own =
       Iff·trans (by-refusal _ k (claimMark (opened m n ls) ws) (ltb→lt 0 k some)) (refused-exactly (opened m n ls) (queries (marks ws)) k i some own)
 
-  misshapen : (byte ≡ 101) ↔ (T shape → ⊥)
-  misshapen = let given = asked 1 1 tt tt in ((λ e. given .0 e .1), λ no. given .1 (tt, no))
+  abbrev fit : Bool
+  fit = topsFit (wordsIn ws)
+
+  misplaced : (byte ≡ 117) ↔ (T fit → ⊥)
+  misplaced = let given = asked 17 1 tt tt in ((λ e. given .0 e .1), λ no. given .1 (tt, no))
+
+  misshapen : (byte ≡ 101) ↔ (T fit × (T shape → ⊥))
+  misshapen = let given = asked 1 2 tt tt in ((λ e. given .0 e .1), λ both. given .1 (tt, both))
 
   not-below : (byte ≡ 106) ↔ (T shape × (T below → ⊥))
-  not-below = let given = asked 6 2 tt tt in ((λ e. given .0 e .1), λ both. given .1 (tt, both))
+  not-below =
+      let given = asked 6 3 tt tt in (
+        (λ e. given .0 e .1 .1),
+        λ both. given .1 (tt, (of-true (claim-tops n (wordsIn ws) (both .0)), both)),
+      )
 
   -- of a well-formed claim it is the number of the mark
   tells-mark : 0 < m → WellFormed m n ws → RightMark markNumber m n ls (claimFrom n (wordsIn ws)) byte
@@ -85,12 +98,23 @@ module _ (m n : ℕ) (ls : List Line) (ws : List ℕ) where
   right-byte pos =
       record {
         marked = tells-mark pos;
+        misplaced = misplaced;
         misshapen = misshapen;
         notBelow = not-below;
       }
 
 pub right-strays : StrayWords
-right-strays m n ls w ws stray = (stray-first n w stray ws, misshapen m n ls (w ∷ []) .1 (stray-shape n w stray))
+right-strays m n ls ws some stray = (stray-first n ws some stray, by (eqb (firstWord ws .kind) topKind) refl)
+  where
+    fits : topsFit (wordsIn (front 1 ws)) ≡ (not (eqb (firstWord ws .kind) topKind) && true)
+    fits = ap topsFit (stray-alone n ws some stray)
+
+    by : (b : Bool) → eqb (firstWord ws .kind) topKind ≡ b → markByte (markedOf (opened m n ls) (front 1 ws)) ≡ cond b 117 101
+    by true top =
+        misplaced m n ls (front 1 ws) .1 (λ t. subst T (fits ∙ ap (λ (b : Bool). not b && true) top) t)
+    by false top =
+        misshapen m n ls (front 1 ws) .1
+        (of-true (fits ∙ ap (λ (b : Bool). not b && true) top), stray-shape n ws some stray)
 
 -- ---- all bytes
 

@@ -28,13 +28,13 @@ use Rattle.questions.specs.Questions.{asks, firstNo, unlessRefused}
 use Rattle.questions.proofs.Reply.{reply-result, reply-memory}
 use Rattle.equations.specs.declared.Mark.{Mark}
 use Rattle.equations.specs.Multipliers.{allBelow}
-use Rattle.words.specs.Words.{wordsIn}
+use Rattle.words.specs.Words.{wordsIn, topsFit}
 use Rattle.ledger.specs.Ledger.{Ledger, isOpened, modulusOf, unknownsOf}
 use Rattle.ledger.specs.Shapes.{isClaim, entriesOf}
 use Rattle.ledger.specs.Marking.{claimMark}
 use Rattle.ledger.specs.Classes.{mostClaims, firstClaim, claimsIn}
-use Rattle.ledger.specs.Calls.{marks, classes, queries}
-use Rattle.ledger.specs.Questions.{refusalOf}
+use Rattle.ledger.specs.Calls.{classes, queries}
+use Rattle.ledger.specs.Questions.{markQuestions, refusalOf}
 use Rattle.ledger.proofs.Questions.{accepted-yes}
 use Rattle.ledger.proofs.Classes.{claims-taken, claims-end}
 use Rattle.asking.specs.Sees.{countedClaims}
@@ -45,24 +45,28 @@ use Rattle.sheet.specs.Calls.{markedOf, markByte, claimsOf, classBytes, 
 -- ---- one byte
 
 -- the questions of a mark have small numbers
-mark-number : (a b c : Bool) → firstNo (asks 4 a ∷ asks 1 b ∷ asks 6 c ∷ []) ≤ 6
-mark-number false b c = omega arith
-mark-number true false c = omega arith
-mark-number true true false = omega arith
-mark-number true true true = omega arith
+mark-number : (a b c d : Bool) → firstNo (asks 4 a ∷ asks 17 b ∷ asks 1 c ∷ asks 6 d ∷ []) ≤ 17
+mark-number false b c d = omega arith
+mark-number true false c d = omega arith
+mark-number true true false d = omega arith
+mark-number true true true false = omega arith
+mark-number true true true true = omega arith
 
-pub byte-fits : (l : Ledger) (ws : List ℕ) (k : ℕ) → Marked·Refused k ≡ markedOf l ws → k ≤ 6
+pub byte-fits : (l : Ledger) (ws : List ℕ) (k : ℕ) → Marked·Refused k ≡ markedOf l ws → k ≤ 17
 unfolding markedOf refusalOf
 byte-fits l ws k is = go (eqb r 0) (claimMark l ws) is
   where
     r : ℕ
-    r = firstNo (asks 4 (isOpened l) ∷ asks 1 (isClaim (unknownsOf l) (wordsIn ws)) ∷ asks 6 (allBelow (modulusOf l) (entriesOf (wordsIn ws))) ∷ [])
+    r = firstNo (markQuestions l ws)
 
-    go : (b : Bool) (mark : Mark) → Marked·Refused k ≡ cond b (Gets mark) (Marked·Refused r) → k ≤ 6
+    go : (b : Bool) (mark : Mark) → Marked·Refused k ≡ cond b (Gets mark) (Marked·Refused r) → k ≤ 17
     go true mark same = let z : _≡_ {A = ℕ} 0 1 = cc in absurd (omega arith)
     go false mark same =
         let number : k ≡ r = cc in
-        omega (arith, mark-number (isOpened l) (isClaim (unknownsOf l) (wordsIn ws)) (allBelow (modulusOf l) (entriesOf (wordsIn ws))))
+        omega (
+          arith,
+          mark-number (isOpened l) (topsFit (wordsIn ws)) (isClaim (unknownsOf l) (wordsIn ws)) (allBelow (modulusOf l) (entriesOf (wordsIn ws))),
+        )
 
 -- ---- all bytes
 
@@ -131,14 +135,14 @@ module _ (l : Ledger) (ws old : List ℕ) where
       ≡ unlessRefused Refused (refusalOf l (queries (classes ws old))) (Claims (length (claimsOf l ws)))
   unfolding classedOf refusalOf
   classed-asked =
-      reply-result (asks 4 (isOpened l) ∷ asks 14 (leb many mostClaims) ∷ []) (Claims many) (classBytes l ws) old Refused tt
+      reply-result (asks 4 (isOpened l) ∷ asks 14 (leb many mostClaims) ∷ []) (length (classBytes l ws)) (Claims many) (classBytes l ws) old Refused tt
       ∙ ap (λ (k : ℕ). unlessRefused Refused k (Claims many)) same-number
 
   pub marks-asked : marksAfter l ws old
       ≡ unlessRefused (λ (k : ℕ). old) (refusalOf l (queries (classes ws old))) (over (classBytes l ws) old)
   unfolding marksAfter refusalOf
   marks-asked =
-      reply-memory (asks 4 (isOpened l) ∷ asks 14 (leb many mostClaims) ∷ []) (Claims many) (classBytes l ws) old tt
+      reply-memory (asks 4 (isOpened l) ∷ asks 14 (leb many mostClaims) ∷ []) (length (classBytes l ws)) (Claims many) (classBytes l ws) old tt
       ∙ ap (λ (k : ℕ). unlessRefused (λ (j : ℕ). old) k (over (classBytes l ws) old)) same-number
 
   pub class-refused : {k : ℕ} → k ≡ refusalOf l (queries (classes ws old)) → (k ≡ 0 → ⊥)

@@ -31,7 +31,7 @@ use Rattle.equations.proofs.Truth.{true-of}
 use Rattle.equations.proofs.Vectors.{below-append}
 use Rattle.words.specs.Words.{wordsIn, numbersOf}
 use Rattle.words.specs.Signs.{residuesOf}
-use Rattle.words.proofs.Words.{numberOf, numbers-count}
+use Rattle.words.proofs.Words.{numberOf, parts-count}
 use Rattle.words.proofs.Unpacked.{part-seen}
 use Rattle.grammar.specs.Tree.{Sides}
 use Rattle.grammar.specs.Texts.{equationIn}
@@ -88,11 +88,11 @@ module _ (ws : List ℕ) (number : ℕ) (is : number ≡ refusalOf unopened (ent
 
     two : length all ≡ 2
     two =
-        numbers-count ws
-        ∙ opening-length ws (true-of (isOpening (wordsIn ws)) (accepted-yes unopened (enters (opens ws)) (sym is ∙ none) .0))
+        parts-count numberOf (wordsIn ws)
+        ∙ opening-length (wordsIn ws) (true-of (isOpening (wordsIn ws)) (accepted-yes unopened (enters (opens ws)) (sym is ∙ none) .1 .0))
 
     number-is : (i : ℕ) → i < 2 → getD new i 0 ≡ numberAt (wordsIn ws) i
-    number-is i at = part-seen numberOf openingRoom ws old seen i (omega arith) (omega (arith, two, numbers-count ws))
+    number-is i at = part-seen numberOf openingRoom ws old seen i (omega arith) (omega (arith, two, parts-count numberOf (wordsIn ws)))
 
     pub open-accepted : (s : Sheet) {after : Sheet} → after ≡ sheetOf (getD new 0 0) (getD new 1 0) 0 (replicate mostEquations 0) (replicate room 0)
         → (Holds 0 ≡ enteredOf (ledgerOf s) (opens ws)) × (after ≡ sheetAfter s (opens ws))
@@ -176,7 +176,7 @@ module _ (s : Sheet) (ws : List ℕ) {seen : Seen} (sees : Sees (ledgerOf s) see
 
   residues-are : length residues ≡ seen .unknowns + 1
   residues-are =
-      residues-long q (unknownsOf (ledgerOf s)) ws (asked .1 .0) ∙ ap (λ (k : ℕ). k + 1) (sym (sees .unknowns))
+      residues-long q (unknownsOf (ledgerOf s)) (equationWords (wordsIn ws)) (asked .1 .1 .0) ∙ ap (λ (k : ℕ). k + 1) (sym (sees .unknowns))
 
   line-seen : take (seen .unknowns + 1) new ≡ residues
   line-seen =

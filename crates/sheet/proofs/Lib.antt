@@ -18,6 +18,7 @@ pub mod Reasons
 pub mod Classes
 pub mod Classed
 pub mod Said
+pub mod Begun
 pub mod Added
 pub mod Typed
 pub mod Struck

@@ -30,7 +30,7 @@ use Rattle.system.specs.Reasons.{shownWith, findingOf}
 use Rattle.system.specs.Lines.{lineShown}
 use Rattle.system.proofs.Lines.{line-shown}
 use Rattle.words.specs.Words.{wordsIn, numbersOf}
-use Rattle.words.proofs.Words.{numberOf, numbers-count}
+use Rattle.words.proofs.Words.{numberOf, parts-count}
 use Rattle.words.proofs.Unpacked.{all-seen, part-seen}
 use Rattle.ledger.specs.Ledger.{Ledger, isOpened, modulusOf, unknownsOf, linesIn, mostUnknowns}
 use Rattle.ledger.specs.Allowed.{Allowed}
@@ -61,20 +61,20 @@ module _ (l : Ledger) (ws : List ℕ) (accepted : refusalOf l (queries (marks ws
   mark-opened = accepted-yes l (queries (marks ws)) accepted .0
 
   shape : T (isClaim (unknownsOf l) (wordsIn ws))
-  shape = accepted-yes l (queries (marks ws)) accepted .1 .0
+  shape = accepted-yes l (queries (marks ws)) accepted .1 .1 .0
 
   abbrev all : List ℕ
   all = numbersOf (wordsIn ws)
 
   module _ (few : unknownsOf l ≤ mostUnknowns) (old : List ℕ) {new : List ℕ} (seen : new ≡ over (take claimRoom all) old) where
     long : length all ≡ suc (numberAt (wordsIn ws) 0 * unknownsOf l)
-    long = numbers-count ws ∙ claim-length (unknownsOf l) ws shape
+    long = parts-count numberOf (wordsIn ws) ∙ claim-length (unknownsOf l) (wordsIn ws) shape
 
     front : new ≡ over all old
-    front = all-seen numberOf claimRoom ws old seen (omega (arith, claim-fits (unknownsOf l) ws shape few))
+    front = all-seen numberOf claimRoom ws old seen (omega (arith, claim-fits (unknownsOf l) (wordsIn ws) shape few))
 
     head-is : getD new 0 0 ≡ numberAt (wordsIn ws) 0
-    head-is = part-seen numberOf claimRoom ws old seen 0 (omega arith) (claim-some (unknownsOf l) ws shape)
+    head-is = part-seen numberOf claimRoom ws old seen 0 (omega arith) (claim-some (unknownsOf l) (wordsIn ws) shape)
 
     end-is : getD new 0 0 * unknownsOf l + 1 ≡ length all
     end-is = ap (λ (k : ℕ). k * unknownsOf l + 1) head-is ∙ add-one _ ∙ sym long
@@ -83,7 +83,7 @@ module _ (l : Ledger) (ws : List ℕ) (accepted : refusalOf l (queries (marks ws
     module _ {see : Seen} (sees : Sees l see) (h : ℕ) (same-h : h ≡ getD new 0 0) where
       pub mark-end : h * see .unknowns + 1 ≤ longestBlock
       mark-end =
-          rw (same-h, sees .unknowns) (omega (arith, end-is, numbers-count ws, claim-fits (unknownsOf l) ws shape few))
+          rw (same-h, sees .unknowns) (omega (arith, end-is, parts-count numberOf (wordsIn ws), claim-fits (unknownsOf l) (wordsIn ws) shape few))
 
       entries-are : take (h * see .unknowns + 1 - 1) (drop 1 new) ≡ entriesOf (wordsIn ws)
       entries-are =
@@ -94,7 +94,7 @@ module _ (l : Ledger) (ws : List ℕ) (accepted : refusalOf l (queries (marks ws
       pub mark-claimed : Claimed (see .modulus) (see .unknowns) (take (h * see .unknowns + 1 - 1) (drop 1 new))
       mark-claimed =
           rw (entries-are, sees .modulus, sees .unknowns)
-          (claimed (unknownsOf l) ws shape (modulusOf l) (accepted-yes l (queries (marks ws)) accepted .1 .1 .0))
+          (claimed (unknownsOf l) (wordsIn ws) shape (modulusOf l) (accepted-yes l (queries (marks ws)) accepted .1 .1 .1 .0))
 
       -- es are the lines, with both sides times m/q
       module _ (allowed : Allowed (modulusOf l) (unknownsOf l) (linesIn l)) (es : List Equation)

@@ -13,6 +13,7 @@ use mathlib.Core.Option.{some}
 use Prim.Native.Nat.{ℕ, _<_, _≤_}
 use native.Mathlib.Omega.{arith}
 use lib.Dec.{T}
+use Rattle.questions.specs.Questions.{largestModulus}
 use Rattle.questions.proofs.Questions.{unless-either}
 use Rattle.equations.specs.declared.Mark.{Mark}
 use Rattle.equations.specs.Line.{Line, Moduli, lineStart, lineIsRight, lineMark}
@@ -22,7 +23,7 @@ use Rattle.equations.proofs.Marks.{Apart, mark-tells}
 use Rattle.equations.proofs.LineAnswer.{line-right-described}
 use Rattle.equations.proofs.LinePromises.{line-own-answer}
 use Rattle.system.proofs.Claims.{claim-described}
-use Rattle.words.specs.Words.{numbersOfAKind, wordsIn}
+use Rattle.words.specs.Words.{wordsIn}
 use Rattle.ledger.specs.Ledger.{Ledger, opened}
 use Rattle.ledger.specs.Shapes.{isClaim, entriesOf, claimFrom}
 use Rattle.ledger.specs.Block.{answerWords}
@@ -78,7 +79,7 @@ module _ (m n : ℕ) (ls : List Line) where
       → T (lineIsRight m n ls (claimFrom n (wordsIn ws))) ↔ DescribesSolutions m n ls (claimFrom n (wordsIn ws))
   well-described pos ws well =
       line-right-described m n ls (claimFrom n (wordsIn ws))
-      (claim-described m n (entriesOf (wordsIn ws)) pos (claimed n ws (well .0) m (well .1)))
+      (claim-described m n (entriesOf (wordsIn ws)) pos (claimed n (wordsIn ws) (well .0) m (well .1)))
 
   -- of a well-formed claim
   pub claim-tells : 0 < m → (ws : List ℕ) → WellFormed m n ws → {A : Type 0} (shown : Mark → A) → Apart shown
@@ -93,12 +94,12 @@ module _ (m n : ℕ) (ls : List Line) where
   right-mark pos ws well =
       rw (marked-accepted (opened m n ls) ws (well-accepted ws well)) (claim-tells pos ws well Gets gets-apart)
 
-  pub own-mark : 0 < m → Moduli m ls → m ≤ numbersOfAKind → 0 < n → n ≤ 16 → (c : List ℕ) → lineStart m n ls ≡ some c
+  pub own-mark : 0 < m → Moduli m ls → m ≤ largestModulus → 0 < n → n ≤ 16 → (c : List ℕ) → lineStart m n ls ≡ some c
       → OwnMark (markedOf (opened m n ls) (answerWords (opened m n ls)))
   own-mark pos moduli largest one unknowns c start =
       let words = answerWords (opened m n ls) in
       let well : WellFormed m n words =
-      (own-shape m n pos ls moduli largest c start unknowns, own-entries m n pos ls moduli largest c start) in
+      (own-shape m n pos ls moduli largest c start unknowns, own-entries m n pos ls moduli largest c start unknowns) in
       right-mark pos words well .right .1
       (well-described pos words well .0
-      (rw (own-claim m n pos ls moduli largest c start one) (line-own-answer m n ls pos moduli .0 c start)))
+      (rw (own-claim m n pos ls moduli largest c start unknowns one) (line-own-answer m n ls pos moduli .0 c start)))

@@ -15,25 +15,27 @@
 use mathlib.Core.Path.{_≡_, refl, ap, ap₂, subst, sym, _∙_}
 use mathlib.Core.Logic.{⊎-elim}
 use mathlib.Core.List.{List}
+use mathlib.Core.Option.{some}
 use Prim.Native.Nat.{ℕ, _<_, _≤_}
 use native.Mathlib.Omega.{arith}
 use borrow.Author.Tests.{ne-eqb}
-use lib.ListN.{length}
+use lib.ListN.{length, take}
 use lib.Dec.{T, eqb→eq}
 use Rattle.slices.specs.Over.{over}
 use Rattle.slices.proofs.Over.{over-front}
-use Rattle.equations.specs.Line.{Line}
+use Rattle.equations.specs.Line.{Line, lineStart}
 use Rattle.equations.proofs.LinePromises.{line-no-start}
 use Rattle.system.proofs.Lines.{line-start-found}
-use Rattle.words.specs.Words.{wordOf, wordsIn}
+use Rattle.words.specs.Words.{wordsIn}
 use Rattle.ledger.specs.Ledger.{Ledger, opened, isOpened, modulusOf, unknownsOf, linesIn}
 use Rattle.ledger.specs.Allowed.{Allowed}
 use Rattle.ledger.specs.Shapes.{claimFrom}
-use Rattle.ledger.specs.Block.{answerWords}
+use Rattle.ledger.specs.Block.{answerWords, answerRoom}
 use Rattle.ledger.specs.Calls.{Call, answers, reasons, classes, queries}
 use Rattle.ledger.specs.Questions.{refusalOf}
 use Rattle.ledger.specs.History.{ledger}
-use Rattle.ledger.proofs.Answer.{answer-fits}
+use Rattle.ledger.proofs.Answer.{room-answered}
+use Rattle.ledger.proofs.Own.{own-claim}
 use Rattle.ledger.proofs.Refusals.{answers-word-plain}
 use Rattle.ledger.proofs.History.{Opened, opening-opens}
 use Rattle.sheet.specs.declared.answering.Answered.the-variants.{Wrote}
@@ -41,16 +43,17 @@ use Rattle.sheet.specs.declared.marking.Marked.the-variants.{Gets}
 use Rattle.sheet.specs.Record.{Sheet, fresh, ledgerOf}
 use Rattle.sheet.specs.Calls.{enteredOf, answeredOf, bufferAfter, shownOf, markedOf, reasonedOf, shownAfter, classedOf, marksAfter}
 use Rattle.sheet.specs.History.{sheetFrom, after}
-use Rattle.sheet.specs.Promises.{NothingSolves, Shows, RightMark, OwnMark, RightSheet, Demand3, DecidedAlways, OwnBlockRight, ZerosAreFresh, RightAlways, ReadsOn, AddedAlways, TypedAlways, StruckAlways, ReasonAlways, SameRefusals, ClassAlways, StrayWords}
+use Rattle.sheet.specs.Promises.{NothingSolves, Shows, RightMark, OwnMark, RightSheet, Demand3, DecidedAlways, OwnBlockRight, OwnBlockReads, ZerosAreFresh, RightAlways, ReadsOn, OpenedAlways, AddedAlways, TypedAlways, StruckAlways, ReasonAlways, SameRefusals, ClassAlways, StrayWords}
 use Rattle.sheet.proofs.Reading.{reads-allowed}
 use Rattle.sheet.proofs.History.{from-reads, fresh-unopened, after-reads, left-refused}
 use Rattle.sheet.proofs.Solved.{solved-words, shown-block}
-use Rattle.sheet.proofs.Answers.{answered-short, answered-wrote, answered-asked, buffer-asked, shown-refusal, right-block}
+use Rattle.sheet.proofs.Answers.{answered-short, answered-wrote, answered-asked, buffer-asked, shown-refusal, right-block, right-room}
 use Rattle.sheet.proofs.Marks.{right-mark, own-mark}
 use Rattle.sheet.proofs.Reasoned.{reasoned-asked, shown-asked}
 use Rattle.sheet.proofs.Reasons.{right-reason, same-refusal}
 use Rattle.sheet.proofs.Classes.{classed-asked, marks-asked}
 use Rattle.sheet.proofs.Classed.{right-class, right-strays}
+use Rattle.sheet.proofs.Begun.{right-opening}
 use Rattle.sheet.proofs.Added.{right-adding}
 use Rattle.sheet.proofs.Typed.{right-typing}
 use Rattle.sheet.proofs.Struck.{right-striking}
@@ -69,18 +72,18 @@ module _ (s : Sheet) (m n : ℕ) (ls : List Line) (reads : ledgerOf s ≡ opened
   abbrev block : List ℕ
   block = answerWords (opened m n ls)
 
-  wrote : (old : List ℕ) → length block ≤ length old
+  wrote : (old : List ℕ) → answerRoom (opened m n ls) ≤ length old
       → (answeredOf (ledgerOf s) old ≡ Wrote (length block)) × (bufferAfter (ledgerOf s) old ≡ over block old)
   wrote old long =
       let w = answered-wrote (opened m n ls) old refl long in
       subst (λ (l : Ledger). (answeredOf l old ≡ Wrote (length block)) × (bufferAfter l old ≡ over block old)) (sym reads)
       (sym (w .0), sym (w .1))
 
-  shows : (w : ℕ) → wordOf w .number ≡ 0 → Shows block (shownOf (opened m n ls) w)
-  shows w none =
-      let accepted = answers-word-plain (opened m n ls) refl w none in (
-        shown-refusal (opened m n ls) w ∙ accepted,
-        solved-words (opened m n ls) allowed (shownOf (opened m n ls) w .block) (shown-block (opened m n ls) w accepted) tt,
+  shows : (number : ℕ) → number ≡ 0 → Shows block (shownOf (opened m n ls) number)
+  shows number none =
+      let accepted = answers-word-plain (opened m n ls) refl number none in (
+        shown-refusal (opened m n ls) number ∙ accepted,
+        solved-words (opened m n ls) allowed (shownOf (opened m n ls) number .block) (shown-block (opened m n ls) number accepted) tt,
       )
 
   right-sheet : RightSheet s m n ls
@@ -89,11 +92,12 @@ module _ (s : Sheet) (m n : ℕ) (ls : List Line) (reads : ledgerOf s ≡ opened
         allowed = allowed;
         block = block;
         right = right-block m n ls positive (allowed .moduli) (allowed .shaped);
-        fits = answer-fits m n ls positive (allowed .moduli) (allowed .shaped) (allowed .equations) (allowed .unknowns);
+        room = answerRoom (opened m n ls);
+        asked = right-room m n ls positive (allowed .moduli) (allowed .shaped) (allowed .equations) (allowed .unknowns);
         answer = wrote;
         short = λ old h. ap (λ (l : Ledger). answeredOf l old) reads ∙ sym (answered-short (opened m n ls) old refl h .0);
-        answerFromTape = λ w none.
-            subst (λ (l : Ledger). Shows block (shownOf l w)) (sym reads) (shows w (eqb→eq (wordOf w .number) 0 none));
+        answerFromTape = λ number none.
+            subst (λ (l : Ledger). Shows block (shownOf l number)) (sym reads) (shows number (eqb→eq number 0 none));
         mark = λ ws well.
             subst (λ (l : Ledger). RightMark Gets m n ls (claimFrom n (wordsIn ws)) (markedOf l ws)) (sym reads)
             (right-mark m n ls positive ws well);
@@ -121,6 +125,9 @@ demand3 calls (before, ws, rest, is, accepted) =
       right = right-sheet (after calls) (o .0) (o .1) (o .2) (after-reads calls ∙ o .3);
     }
 
+pub opened-always : OpenedAlways
+opened-always = right-opening
+
 pub added-always : AddedAlways
 added-always s m n ls ws reads = right-adding s m n ls ws reads
 
@@ -142,16 +149,33 @@ class-always s m n ls ws old reads = right-class m n ls (positive s m n ls reads
 pub stray-words : StrayWords
 stray-words = right-strays
 
+-- the front of a buffer into which an answer with a starting vector was written
+written-front : (calls : List Call) (m n : ℕ) (ls : List Line) (old : List ℕ) → ledger calls ≡ opened m n ls → (start : List ℕ)
+    → lineStart m n ls ≡ some start → length (answerWords (ledger calls)) ≤ length old
+    → take (length (answerWords (ledger calls))) (bufferAfter (ledgerOf (after calls)) old) ≡ answerWords (opened m n ls)
+written-front calls m n ls old holds start is h =
+    let reads = after-reads calls ∙ holds in
+    let ok = allowed (after calls) m n ls reads in
+    let block = answerWords (opened m n ls) in
+    let size : length (answerWords (ledger calls)) ≡ length block = ap (λ (l : Ledger). length (answerWords l)) holds in
+    let room = room-answered m n ls (positive (after calls) m n ls reads) (ok .moduli) (ok .shaped) start is in
+    over-front (length (answerWords (ledger calls))) block old
+    (wrote (after calls) m n ls reads old (omega (arith, size, h, room)) .1) (sym size)
+
 pub own-block-right : OwnBlockRight
 own-block-right calls m n ls old holds solvable h =
     let reads = after-reads calls ∙ holds in
-    let block = answerWords (opened m n ls) in
-    let size : length (answerWords (ledger calls)) ≡ length block = ap (λ (l : Ledger). length (answerWords l)) holds in
-    subst OwnMark
-    (sym (ap₂ markedOf reads
-    (over-front (length (answerWords (ledger calls))) block old
-    (wrote (after calls) m n ls reads old (omega (arith, size, h)) .1) (sym size))))
-    (own-right (after calls) m n ls reads solvable)
+    ⊎-elim (λ none. absurd (solvable (line-no-start m n ls .0 none)))
+    (λ found.
+    subst OwnMark (sym (ap₂ markedOf reads (written-front calls m n ls old holds (found .0) (found .1) h)))
+    (own-right (after calls) m n ls reads solvable))
+    (line-start-found m n ls)
+
+pub own-block-reads : OwnBlockReads
+own-block-reads calls m n ls old start holds is h =
+    let ok = allowed (after calls) m n ls (after-reads calls ∙ holds) in
+    ap (λ (ws : List ℕ). claimFrom n (wordsIn ws)) (written-front calls m n ls old holds start is h)
+    ∙ own-claim m n (omega (arith, ok .modulus)) ls (ok .moduli) (ok .largest) start is (ok .unknowns) (omega (arith, ok .hasUnknowns))
 
 -- ---- what the questions decide
 

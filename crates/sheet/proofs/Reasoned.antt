@@ -1,20 +1,20 @@
 -- What is said of a claim that is explained, and of the reason that is given; both are told apart by the refusal of marking.
 --   explained-refused, said-gives, said-refused   what was found before anything is written
 --   reason-says                                   the reason of an accepted claim, with its numbers, is true
---   numbers-below, numbers-few                    the numbers have words, and are 16 at most
+--   numbers-below, numbers-few                    the numbers are residues, and 16 at most
 --   show-short, show-wrote                        each way out of writing them
 --   reason-refused, reason-shown                  each way out of the call
 --   reasoned-asked, shown-asked                   the same by the questions of the call
---   words-few                                     16 words at most are said to be written
+--   words-few                                     32 memory words at most are said to be written
 use mathlib.Core.Path.{_≡_, refl, sym, _∙_}
 use mathlib.Core.Logic.{_⊎_, inl, inr}
 use mathlib.Core.Bool.{Bool, true, false}
 use mathlib.Core.List.{List}
-use Prim.Native.Nat.{ℕ, _<_, _≤_}
+use Prim.Native.Nat.{ℕ, _*_, _<_, _≤_}
 use native.Mathlib.Omega.{arith}
 use borrow.Author.Tests.{eqb-true, eqb-false, le-leb, lt-leb, ne-eqb}
 use lib.Dec.{eqb}
-use lib.ListN.{length, length-map}
+use lib.ListN.{length}
 use Rattle.slices.specs.Over.{over}
 use Rattle.questions.specs.Questions.{unlessRefused}
 use Rattle.questions.specs.Reply.{resultOf, memoryAfter}
@@ -23,22 +23,23 @@ use Rattle.questions.proofs.Reply.{reply-result, reply-memory}
 use Rattle.equations.specs.declared.Reason.{Reason}
 use Rattle.equations.specs.Vectors.{Below}
 use Rattle.equations.specs.LineReasons.{LineSays}
-use Rattle.equations.proofs.Vectors.{below-mono}
 use Rattle.system.proofs.Claims.{claim-formed}
 use Rattle.system.proofs.Lines.{true-line-reason, line-says-residues, line-says-few}
-use Rattle.words.specs.Words.{numbersOfAKind, word, wordsIn, wordsOf}
+use Rattle.words.specs.Words.{wordsIn, wordsOf}
+use Rattle.words.proofs.Packed.{written-two}
 use Rattle.ledger.specs.Ledger.{Ledger, modulusOf, unknownsOf, linesIn}
 use Rattle.ledger.specs.Allowed.{Allowed}
 use Rattle.ledger.specs.Shapes.{entriesOf, claimFrom}
-use Rattle.ledger.specs.Marking.{claimReason, reasonNumbers, shownKind, reasonWords}
+use Rattle.ledger.specs.Block.{countsFor}
+use Rattle.ledger.specs.Marking.{claimReason, reasonNumbers, shownKind, reasonWords, reasonRoom}
 use Rattle.ledger.specs.Calls.{marks, reasons, queries}
 use Rattle.ledger.specs.Questions.{markQuestions, refusalOf}
 use Rattle.ledger.proofs.Shapes.{claimed}
 use Rattle.ledger.proofs.Questions.{accepted-yes}
 use Rattle.sheet.specs.declared.reasoning.Reasoned.the-variants.{Gives, Refused}
 use Rattle.sheet.specs.Record.{Sheet, ledgerOf}
-use Rattle.sheet.specs.Calls.{showReply, reasonedOf, shownAfter}
-use Rattle.sheet.specs.View.{explainedOf, explainedNumbers}
+use Rattle.sheet.specs.Calls.{reasonedOf, shownAfter}
+use Rattle.sheet.specs.View.{explainedOf, explainedNumbers, shownBy}
 use Rattle.sheet.proofs.Reading.{reads-allowed}
 use Rattle.sheet.proofs.MarkGiven.{mark-opened}
 
@@ -90,12 +91,11 @@ module _ (l : Ledger) (ws : List ℕ) where
           true-line-reason (modulusOf l) (unknownsOf l) (linesIn l) (claimFrom (unknownsOf l) (wordsIn ws)) (omega (arith, allowed .modulus))
           (allowed .moduli) (allowed .shaped)
           (claim-formed (modulusOf l) (unknownsOf l) (entriesOf (wordsIn ws))
-          (claimed (unknownsOf l) ws (yes .1 .0) (modulusOf l) (yes .1 .1 .0)))
+          (claimed (unknownsOf l) (wordsIn ws) (yes .1 .1 .0) (modulusOf l) (yes .1 .1 .1 .0)))
 
-      pub numbers-below : Below numbersOfAKind (reasonNumbers l ws)
+      pub numbers-below : Below (modulusOf l) (reasonNumbers l ws)
       numbers-below =
-          below-mono (modulusOf l) numbersOfAKind (reasonNumbers l ws) (omega (arith, allowed .largest))
-          (line-says-residues (modulusOf l) (unknownsOf l) (linesIn l) _ (claimReason l ws) (reasonNumbers l ws) reason-says)
+          line-says-residues (modulusOf l) (unknownsOf l) (linesIn l) _ (claimReason l ws) (reasonNumbers l ws) reason-says
 
       pub numbers-few : length (reasonNumbers l ws) ≤ 16
       numbers-few =
@@ -104,20 +104,24 @@ module _ (l : Ledger) (ws : List ℕ) where
 
 -- ---- what is written
 
-pub words-count : (l : Ledger) (ws : List ℕ) → length (reasonWords l ws) ≡ length (reasonNumbers l ws)
+words-two : (l : Ledger) (ws : List ℕ) → length (reasonWords l ws) ≤ 2 * length (reasonNumbers l ws)
 unfolding reasonWords
-words-count l ws = length-map (reasonNumbers l ws) (word (shownKind (claimReason l ws)))
+words-two l ws = written-two (shownKind (claimReason l ws)) (reasonNumbers l ws)
 
-module _ (r : Reason) (words old : List ℕ) where
-  pub show-short : length old < length words
-      → (Refused 8 ≡ resultOf Refused (showReply r words) old) × (old ≡ memoryAfter (showReply r words) old)
-  unfolding resultOf memoryAfter
-  show-short short = let no = lt-leb (length words) (length old) short in (rw no, rw no)
+module _ (m : ℕ) (r : Reason) (xs old : List ℕ) where
+  abbrev room : ℕ
+  room = length xs * countsFor m
 
-  pub show-wrote : length words ≤ length old
-      → (Gives r (length words) ≡ resultOf Refused (showReply r words) old) × (over words old ≡ memoryAfter (showReply r words) old)
+  pub show-short : length old < length xs * countsFor m
+      → (Refused 8 ≡ resultOf Refused (shownBy m r xs) old) × (old ≡ memoryAfter (shownBy m r xs) old)
   unfolding resultOf memoryAfter
-  show-wrote long = let yes = le-leb (length words) (length old) long in (rw yes, rw yes)
+  show-short short = let no = lt-leb room (length old) short in (rw no, rw no)
+
+  pub show-wrote : length xs * countsFor m ≤ length old
+      → (Gives r (length (wordsOf (shownKind r) xs)) ≡ resultOf Refused (shownBy m r xs) old)
+      × (over (wordsOf (shownKind r) xs) old ≡ memoryAfter (shownBy m r xs) old)
+  unfolding resultOf memoryAfter
+  show-wrote long = let yes = le-leb room (length old) long in (rw yes, rw yes)
 
 module _ (l : Ledger) (ws old : List ℕ) where
   pub reason-refused : (k : ℕ) → refusalOf l (queries (marks ws)) ≡ k → (k ≡ 0 → ⊥)
@@ -126,22 +130,22 @@ module _ (l : Ledger) (ws old : List ℕ) where
   reason-refused k refused h = rw (refused, ne-eqb k 0 h) (refl, refl)
 
   -- an accepted claim: what is written is the numbers xs, in words of the reason r
-  pub reason-shown : refusalOf l (queries (marks ws)) ≡ 0 → (r : Reason) (xs : List ℕ) → r ≡ claimReason l ws → xs ≡ reasonNumbers l ws
-      → (resultOf Refused (showReply r (wordsOf (shownKind r) xs)) old ≡ reasonedOf l ws old)
-      × (memoryAfter (showReply r (wordsOf (shownKind r) xs)) old ≡ shownAfter l ws old)
-  unfolding reasonedOf shownAfter refusalOf reasonWords
-  reason-shown accepted r xs is are = rw (accepted, is, are) (refl, refl)
+  pub reason-shown : refusalOf l (queries (marks ws)) ≡ 0 → (m : ℕ) (r : Reason) (xs : List ℕ) → m ≡ modulusOf l → r ≡ claimReason l ws
+      → xs ≡ reasonNumbers l ws
+      → (resultOf Refused (shownBy m r xs) old ≡ reasonedOf l ws old) × (memoryAfter (shownBy m r xs) old ≡ shownAfter l ws old)
+  unfolding reasonedOf shownAfter refusalOf reasonWords reasonRoom
+  reason-shown accepted m r xs same is are = rw (accepted, same, is, are) (refl, refl)
 
   pub reasoned-asked : reasonedOf l ws old
       ≡ unlessRefused Refused (refusalOf l (queries (reasons ws old))) (Gives (claimReason l ws) (length (reasonWords l ws)))
   unfolding reasonedOf refusalOf
-  reasoned-asked = reply-result (markQuestions l ws) (Gives (claimReason l ws) (length (reasonWords l ws))) (reasonWords l ws) old Refused tt
+  reasoned-asked = reply-result (markQuestions l ws) (reasonRoom l ws) (Gives (claimReason l ws) (length (reasonWords l ws))) (reasonWords l ws) old Refused tt
 
   pub shown-asked : shownAfter l ws old ≡ unlessRefused (λ (k : ℕ). old) (refusalOf l (queries (reasons ws old))) (over (reasonWords l ws) old)
   unfolding shownAfter refusalOf
-  shown-asked = reply-memory (markQuestions l ws) (Gives (claimReason l ws) (length (reasonWords l ws))) (reasonWords l ws) old tt
+  shown-asked = reply-memory (markQuestions l ws) (reasonRoom l ws) (Gives (claimReason l ws) (length (reasonWords l ws))) (reasonWords l ws) old tt
 
-pub words-few : (s : Sheet) (ws old : List ℕ) {r : Reason} {k : ℕ} → reasonedOf (ledgerOf s) ws old ≡ Gives r k → k ≤ 16
+pub words-few : (s : Sheet) (ws old : List ℕ) {r : Reason} {k : ℕ} → reasonedOf (ledgerOf s) ws old ≡ Gives r k → k ≤ 32
 words-few s ws old {r} {k} is = by (eqb asked 0) refl
   where
     l : Ledger
@@ -150,12 +154,12 @@ words-few s ws old {r} {k} is = by (eqb asked 0) refl
     asked : ℕ
     asked = refusalOf l (queries (marks ws))
 
-    by : (b : Bool) → eqb asked 0 ≡ b → k ≤ 16
+    by : (b : Bool) → eqb asked 0 ≡ b → k ≤ 32
     by true none =
         let accepted = eqb-true asked 0 none in
         let same = gives-is (refusalOf l (queries (reasons ws old))) (claimReason l ws) r (length (reasonWords l ws)) k
         (sym (reasoned-asked l ws old) ∙ is) .2 in
-        omega (arith, same, words-count l ws, numbers-few l ws accepted (reads-allowed s (mark-opened l ws accepted)))
+        omega (arith, same, words-two l ws, numbers-few l ws accepted (reads-allowed s (mark-opened l ws accepted)))
     by false some =
         let refused = reason-refused l ws old asked refl (eqb-false asked 0 some) .0 ∙ is in
         let z : _≡_ {A = ℕ} 0 1 = cc in

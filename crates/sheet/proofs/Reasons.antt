@@ -3,19 +3,20 @@
 --   same-refusal    what marking turns away is turned away with the same number
 use mathlib.Core.Path.{_≡_, refl, sym, ap, subst, _∙_}
 use mathlib.Core.List.{List}
-use Prim.Native.Nat.{ℕ, _<_, _≤_}
+use Prim.Native.Nat.{ℕ, _*_, _<_, _≤_}
 use native.Mathlib.Omega.{arith}
-use lib.ListN.{length, length-map}
+use lib.ListN.{length}
 use Rattle.slices.specs.Over.{over}
 use Rattle.equations.specs.declared.Reason.{Reason}
 use Rattle.equations.specs.Reasons.{markBeside}
 use Rattle.equations.specs.Line.{Line}
 use Rattle.system.proofs.Claims.{claim-formed}
 use Rattle.system.proofs.Lines.{same-line-verdict}
-use Rattle.words.specs.Words.{word, wordsIn, wordsOf}
+use Rattle.words.specs.Words.{wordsIn, wordsOf}
 use Rattle.ledger.specs.Ledger.{Ledger, opened}
 use Rattle.ledger.specs.Allowed.{Allowed}
 use Rattle.ledger.specs.Shapes.{entriesOf, claimFrom}
+use Rattle.ledger.specs.Block.{countsFor}
 use Rattle.ledger.specs.Marking.{claimReason, reasonNumbers, shownKind}
 use Rattle.ledger.specs.Calls.{marks, queries}
 use Rattle.ledger.specs.Questions.{refusalOf}
@@ -48,21 +49,18 @@ module _ (m n : ℕ) (ls : List Line) (ws : List ℕ) (allowed : Allowed m n ls)
   verdict =
       marked-accepted l ws accepted
       ∙ sym (ap Gets (same-line-verdict m n ls (claimFrom n (wordsIn ws)) (omega (arith, allowed .modulus)) (allowed .moduli) (allowed .shaped)
-      (claim-formed m n (entriesOf (wordsIn ws)) (claimed n ws (well .0) m (well .1)))))
+      (claim-formed m n (entriesOf (wordsIn ws)) (claimed n (wordsIn ws) (well .0) m (well .1)))))
 
-  count : length words ≡ length shown
-  count = length-map shown (word (shownKind reason))
-
-  given : (old : List ℕ) → length shown ≤ length old
-      → (reasonedOf l ws old ≡ Gives reason (length shown)) × (shownAfter l ws old ≡ over words old)
+  given : (old : List ℕ) → length shown * countsFor m ≤ length old
+      → (reasonedOf l ws old ≡ Gives reason (length words)) × (shownAfter l ws old ≡ over words old)
   given old long =
-      let wrote = show-wrote reason words old (omega (arith, count)) in
-      let is = reason-shown l ws old accepted reason shown refl refl in
-      (sym (ap (Gives reason) (sym count) ∙ wrote .0 ∙ is .0), sym (wrote .1 ∙ is .1))
+      let wrote = show-wrote m reason shown old long in
+      let is = reason-shown l ws old accepted m reason shown refl refl refl in
+      (sym (wrote .0 ∙ is .0), sym (wrote .1 ∙ is .1))
 
-  short : (old : List ℕ) → length old < length shown → reasonedOf l ws old ≡ Refused 8
+  short : (old : List ℕ) → length old < length shown * countsFor m → reasonedOf l ws old ≡ Refused 8
   short old less =
-      sym (show-short reason words old (omega (arith, count)) .0 ∙ reason-shown l ws old accepted reason shown refl refl .0)
+      sym (show-short m reason shown old less .0 ∙ reason-shown l ws old accepted m reason shown refl refl refl .0)
 
   pub right-reason : (s : Sheet) → ledgerOf s ≡ opened m n ls → RightReason s m n ls ws
   right-reason s reads =
@@ -72,7 +70,7 @@ module _ (m n : ℕ) (ls : List Line) (ws : List ℕ) (allowed : Allowed m n ls)
         shown = shown;
         says = reason-says l ws accepted allowed;
         given = λ old long.
-            subst (λ (k : Ledger). (reasonedOf k ws old ≡ Gives reason (length shown)) × (shownAfter k ws old ≡ over words old)) (sym reads)
+            subst (λ (k : Ledger). (reasonedOf k ws old ≡ Gives reason (length words)) × (shownAfter k ws old ≡ over words old)) (sym reads)
             (given old long);
         short = λ old less. ap (λ (k : Ledger). reasonedOf k ws old) reads ∙ short old less;
       }

@@ -1,22 +1,21 @@
--- The block that answers the lines of an opened sheet, and that words can hold it.
+-- The block that answers the lines of an opened sheet, and its words.
 --   solved-block         its numbers are the block's,
 --   solved-whole         and lie in the array
 --   solved-words         its words are the ledger's answer,
---   solved-size          which are one more than the numbers behind the head
+--   solved-room          the room that question 8 asks for is the answer's,
+--   solved-fits          and the words fit in it
 --   solved-head          its head is no larger than 17
 --   solved-start         a head that is not 0 has a starting vector behind it
---   solved-below         its numbers are numbers of words
 --   shown-block          the block that an accepted answer from tape gives
 use mathlib.Core.Path.{_≡_, refl, sym, ap, subst, _∙_}
 use mathlib.Core.List.{List, _∷_}
-use Prim.Native.Nat.{ℕ, _+_, _<_, _≤_}
+use Prim.Native.Nat.{ℕ, _<_, _≤_}
 use native.Mathlib.Omega.{arith}
 use lib.Dec.{T}
 use lib.ListN.{length, take, drop, getD, replicate}
 use lib.Seq.{length-take-le}
 use Rattle.slices.proofs.Over.{over-fits}
 use Rattle.equations.specs.Vectors.{Below}
-use Rattle.equations.proofs.Vectors.{below-mono}
 use Rattle.system.specs.declared.solving.Answer.{Answer}
 use Rattle.equations.specs.Equation.{Equation}
 use Rattle.equations.specs.Line.{scaled}
@@ -26,14 +25,13 @@ use Rattle.system.specs.Lines.{lineBlock}
 use Rattle.system.proofs.Lines.{line-block}
 use Rattle.system.proofs.Block.{block-head, block-start, block-below}
 use Rattle.system.proofs.Written.{answer-block}
-use Rattle.words.specs.Words.{numbersOfAKind}
 use Rattle.ledger.specs.Ledger.{Ledger, unopened, opened, isOpened, modulusOf, unknownsOf, linesIn}
 use Rattle.ledger.specs.Shapes.{largestHead}
-use Rattle.ledger.specs.Block.{blockWords, answerWords}
+use Rattle.ledger.specs.Block.{blockWords, blockRoom, answerWords, answerRoom}
 use Rattle.ledger.specs.Allowed.{Allowed}
 use Rattle.ledger.specs.Calls.{answersFromTape, queries}
 use Rattle.ledger.specs.Questions.{refusalOf}
-use Rattle.ledger.proofs.Blocks.{block-words-length}
+use Rattle.ledger.proofs.Blocks.{room-fits}
 use Rattle.sheet.specs.Calls.{shownOf}
 
 abbrev blockIn : Ledger → List ℕ
@@ -43,6 +41,11 @@ answer-words : (l : Ledger) → T (isOpened l) → answerWords l ≡ blockWords 
 unfolding answerWords
 answer-words unopened is = absurd is
 answer-words (opened m n ls) is = refl
+
+answer-room : (l : Ledger) → T (isOpened l) → answerRoom l ≡ blockRoom (modulusOf l) (blockIn l)
+unfolding answerRoom
+answer-room unopened is = absurd is
+answer-room (opened m n ls) is = refl
 
 pub solved-whole : (l : Ledger) (b : Answer) → b ≡ answerFrom (lineBlock (modulusOf l) (unknownsOf l) (linesIn l))
     → b .len ≤ length (b .numbers)
@@ -91,26 +94,22 @@ module _ (l : Ledger) (allowed : Allowed (modulusOf l) (unknownsOf l) (linesIn l
   pub solved-head : b .head ≤ largestHead
   solved-head = omega (arith, head-is, block-head m n es, allowed .unknowns)
 
-  pub solved-below : Below numbersOfAKind (take (b .len) (b .numbers))
-  solved-below =
-      below-mono m numbersOfAKind (take (b .len) (b .numbers)) (omega (arith, allowed .largest))
-      (subst (λ (z : List ℕ). Below m (drop 1 z)) (sym (solved-block ∙ same))
-      (block-below m n es pos (scaled-shaped m n (linesIn l) (allowed .shaped))))
+  residues : Below m (take (b .len) (b .numbers))
+  residues =
+      subst (λ (z : List ℕ). Below m (drop 1 z)) (sym (solved-block ∙ same))
+      (block-below m n es pos (scaled-shaped m n (linesIn l) (allowed .shaped)))
 
   module _ (is : T (isOpened l)) where
     pub solved-words : blockWords (b .head ∷ take (b .len) (b .numbers)) ≡ answerWords l
     solved-words = ap blockWords solved-block ∙ sym (answer-words l is)
 
-    pub solved-size : length (answerWords l) ≡ b .len + 1
-    solved-size =
-        omega (
-          arith,
-          ap length solved-words,
-          block-words-length (b .head ∷ take (b .len) (b .numbers)),
-          length-take-le (b .len) (b .numbers) whole,
-        )
+    pub solved-room : blockRoom (modulusOf l) (b .head ∷ take (b .len) (b .numbers)) ≡ answerRoom l
+    solved-room = ap (blockRoom (modulusOf l)) solved-block ∙ sym (answer-room l is)
 
-pub shown-block : (l : Ledger) (w : ℕ) → refusalOf l (queries (answersFromTape w)) ≡ 0
-    → shownOf l w .block ≡ answerFrom (lineBlock (modulusOf l) (unknownsOf l) (linesIn l))
+    pub solved-fits : length (blockWords (b .head ∷ take (b .len) (b .numbers))) ≤ answerRoom l
+    solved-fits = omega (arith, solved-room, room-fits m (b .head) (take (b .len) (b .numbers)) residues)
+
+pub shown-block : (l : Ledger) (number : ℕ) → refusalOf l (queries (answersFromTape number)) ≡ 0
+    → shownOf l number .block ≡ answerFrom (lineBlock (modulusOf l) (unknownsOf l) (linesIn l))
 unfolding shownOf
-shown-block l w accepted = rw accepted
+shown-block l number accepted = rw accepted

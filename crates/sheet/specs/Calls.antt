@@ -5,15 +5,15 @@ use Prim.Native.Nat.{ℕ, _+_}
 use lib.Dec.{leb}
 use lib.ListN.{length, replicate}
 use Rattle.questions.specs.Questions.{asks, firstNo, unlessRefused}
-use Rattle.questions.specs.Reply.{Reply, gives, refuses, resultOf, memoryAfter}
+use Rattle.questions.specs.Reply.{Reply, givesIn, gives, refuses, resultOf, memoryAfter}
 use Rattle.equations.specs.declared.Reason.{Reason}
 use Rattle.equations.specs.Marks.{markNumber}
 use Rattle.system.specs.declared.solving.Answer.{Answer}
 use Rattle.system.specs.Block.{answerFrom}
 use Rattle.system.specs.Lines.{lineBlock}
 use Rattle.ledger.specs.Ledger.{Ledger, isOpened, modulusOf, unknownsOf, linesIn}
-use Rattle.ledger.specs.Block.{answerWords}
-use Rattle.ledger.specs.Marking.{claimMark, claimReason, reasonWords}
+use Rattle.ledger.specs.Block.{answerWords, answerRoom}
+use Rattle.ledger.specs.Marking.{claimMark, claimReason, reasonWords, reasonRoom}
 use Rattle.ledger.specs.Classes.{mostClaims, claimsIn}
 use Rattle.ledger.specs.Calls.{Entry, answersFromTape, marks, enters, queries}
 use Rattle.ledger.specs.Questions.{markQuestions, refusalOf}
@@ -39,10 +39,11 @@ enteredOf l e = unlessRefused Entered·Refused (refusalOf l (enters e)) (Holds (
 unfoldable pub sheetAfter : Sheet → Entry → Sheet
 sheetAfter s e = unlessRefused (λ (k : ℕ). s) (refusalOf (ledgerOf s) (enters e)) (recordBy s (effectOf (ledgerOf s) e))
 
--- Answer: the block's words, and how many they are. "Answer: opened? 4."; 8 is asked of every reply.
+-- Answer: the block's words, and how many memory words they are. "Answer: opened? 4."; 8 is asked of every reply.
 abbrev pub answerReply : Ledger → Reply Answered
 answerReply l =
-    unlessRefused refuses (firstNo (asks 4 (isOpened l) ∷ [])) (gives (Wrote (length (answerWords l))) (answerWords l))
+    unlessRefused refuses (firstNo (asks 4 (isOpened l) ∷ []))
+    (givesIn (answerRoom l) (Wrote (length (answerWords l))) (answerWords l))
 
 -- what it gives back and what it leaves in a buffer that held `old`
 unfoldable pub answeredOf : Ledger → List ℕ → Answered
@@ -55,22 +56,23 @@ bufferAfter l old = memoryAfter (answerReply l) old
 abbrev pub noBlock : Answer
 noBlock = record { head = 0; len = 0; numbers = replicate 272 0 }
 
--- Answer from tape: the numbers of the block, or the refusal.
+-- Answer from tape, with its word's number: the numbers of the block, or the refusal.
 unfoldable pub shownOf : Ledger → ℕ → Shown
-shownOf l w =
-    unlessRefused (λ (k : ℕ). record { refused = k; block = noBlock }) (refusalOf l (queries (answersFromTape w)))
+shownOf l number =
+    unlessRefused (λ (k : ℕ). record { refused = k; block = noBlock }) (refusalOf l (queries (answersFromTape number)))
     (record { refused = 0; block = answerFrom (lineBlock (modulusOf l) (unknownsOf l) (linesIn l)) })
 
 -- Mark: the mark, or the number of the question that turned the claim away.
 unfoldable pub markedOf : Ledger → List ℕ → Marked
 markedOf l ws = unlessRefused Marked·Refused (refusalOf l (queries (marks ws))) (Gets (claimMark l ws))
 
--- Reason: the reason, and how many words are written beside it. "The questions are those of marking"; 8 is asked of every reply.
-abbrev pub showReply : Reason → List ℕ → Reply Reasoned
-showReply reason words = gives (Gives reason (length words)) words
+-- Reason: the reason, and how many memory words are written beside it. "The questions are those of marking"; 8 is asked of every reply.
+abbrev pub showReply : ℕ → Reason → List ℕ → Reply Reasoned
+showReply room reason words = givesIn room (Gives reason (length words)) words
 
 abbrev pub reasonReply : Ledger → List ℕ → Reply Reasoned
-reasonReply l ws = unlessRefused refuses (firstNo (markQuestions l ws)) (showReply (claimReason l ws) (reasonWords l ws))
+reasonReply l ws =
+    unlessRefused refuses (firstNo (markQuestions l ws)) (showReply (reasonRoom l ws) (claimReason l ws) (reasonWords l ws))
 
 -- what it gives back and what it leaves in a buffer that held `old`
 unfoldable pub reasonedOf : Ledger → List ℕ → List ℕ → Reasoned

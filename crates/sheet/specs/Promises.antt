@@ -6,14 +6,15 @@
 -- So `after calls` is what the caller's memory holds after the calls, and what is promised here of those names at that sheet is what the
 -- next call does. `ledger` sees the calls alone. Definitions only.
 use mathlib.Core.Path.{_≡_}
+use mathlib.Core.Bool.{cond}
 use mathlib.Core.Logic.{_↔_, _⊎_}
 use mathlib.Core.List.{List, [], _∷_, _++_, flatten}
 use mathlib.Core.Option.{some}
-use Prim.Native.Nat.{ℕ, suc, _<_, _≤_}
-use lib.Dec.{T}
+use Prim.Native.Nat.{ℕ, suc, _*_, _<_, _≤_}
+use lib.Dec.{T, eqb}
 use lib.ListN.{length, take, getD, replicate}
 use Rattle.slices.specs.Over.{over}
-use Rattle.questions.specs.Questions.{unlessRefused}
+use Rattle.questions.specs.Questions.{unlessRefused, largestModulus}
 use Rattle.residue.specs.Divides.{Divides}
 use Rattle.equations.specs.Vectors.{Vector}
 use Rattle.equations.specs.Whole.{HoldsWhole}
@@ -21,22 +22,23 @@ use Rattle.equations.specs.Multipliers.{allBelow}
 use Rattle.equations.specs.declared.Mark.{Mark}
 use Rattle.equations.specs.declared.Mark.the-variants.{Pass, Long}
 use Rattle.equations.specs.declared.Reason.{Reason}
-use Rattle.equations.specs.Claim.{Claim, describes}
+use Rattle.equations.specs.Claim.{Claim, from, describes}
 use Rattle.equations.specs.Marks.{markNumber, HasSuperfluous, MarkTells}
 use Rattle.equations.specs.Reasons.{markBeside}
 use Rattle.equations.specs.Line.{Line, holdsOne, holds, lineStart, lineSteps, lineRefutes}
 use Rattle.equations.specs.LineReasons.{LineSays}
 use Rattle.system.specs.Block.{answerFrom}
 use Rattle.system.specs.Lines.{lineBlock}
-use Rattle.words.specs.Words.{word, wordOf, wordsIn, wordsOf, headKind, entryKind, multiplierKind}
+use Rattle.words.specs.Words.{word, wordsIn, topsFit, wordsOf, headKind, entryKind, multiplierKind, topKind}
+use Rattle.words.specs.Fronts.{firstWord, front, behind}
 use Rattle.words.specs.Signs.{wholesOf}
 use Rattle.grammar.specs.Tree.{Sides}
 use Rattle.grammar.specs.Grammar.{Typed, largestText}
 use Rattle.grammar.specs.Meaning.{HoldsMod}
-use Rattle.ledger.specs.Ledger.{unopened, opened, modulusOf, unknownsOf, linesIn, mostEquations}
+use Rattle.ledger.specs.Ledger.{unopened, opened, modulusOf, unknownsOf, linesIn, mostEquations, mostUnknowns}
 use Rattle.ledger.specs.Allowed.{Allowed}
-use Rattle.ledger.specs.Shapes.{isEquation, ownModulus, equationWords, isClaim, largestHead, entriesOf, claimFrom}
-use Rattle.ledger.specs.Block.{longestBlock, blockWords, answerWords}
+use Rattle.ledger.specs.Shapes.{numberAt, isOpening, isEquation, ownModulus, equationWords, isClaim, largestHead, entriesOf, claimFrom}
+use Rattle.ledger.specs.Block.{longestMemory, blockWords, countsFor, answerWords}
 use Rattle.ledger.specs.Marking.{claimMark, claimReason, shownKind, reasonWords}
 use Rattle.ledger.specs.Classes.{mostClaims, claimsIn}
 use Rattle.ledger.specs.Calls.{Call, Entry, opens, adds, types, strikes, answers, answersFromTape, marks, reasons, classes, enters, queries}
@@ -95,19 +97,28 @@ DescribesSolutions m n ls claim = (v : List ℕ) → T (describes m claim v) ↔
 abbrev pub RightMark : {A : Type 0} → (Mark → A) → ℕ → ℕ → List Line → Claim → A → Type 0
 RightMark shown m n ls claim x = MarkTells shown (DescribesSolutions m n ls claim) (HasSuperfluous m n claim) x
 
+-- How much room question 8 asks for: "a multiplier .. counts two words when m is above 2^28", and vectors' entries count as they are written.
+pub record RightRoom (m n : ℕ) (ls : List Line) (block : List ℕ) (room : ℕ) : Type 0 where
+  pub multipliers : NothingSolves m n ls → room ≡ suc (length ls * countsFor m)
+  pub vectors : (NothingSolves m n ls → ⊥) → room ≡ length block
+  -- there the block fits, and so much is enough for every block
+  pub fits : length block ≤ room
+  pub most : room ≤ longestMemory
+
 -- What demand 3 says of a sheet whose ledger has m, n and ls.
 pub record RightSheet (s : Sheet) (m n : ℕ) (ls : List Line) : Type 0 where
   pub allowed : Allowed m n ls
   -- the block that answers them
   pub block : List ℕ
   pub right : RightBlock m n ls block
-  pub fits : length block ≤ longestBlock
+  pub room : ℕ
+  pub asked : RightRoom m n ls block room
   -- "An answer asked for then, into a long enough buffer" that held `old`: "Buffer long enough for this block? 8"
-  pub answer : (old : List ℕ) → length block ≤ length old
+  pub answer : (old : List ℕ) → room ≤ length old
       → (answeredOf (ledgerOf s) old ≡ Wrote (length block)) × (bufferAfter (ledgerOf s) old ≡ over block old)
-  pub short : (old : List ℕ) → length old < length block → answeredOf (ledgerOf s) old ≡ Answered·Refused 8
+  pub short : (old : List ℕ) → length old < room → answeredOf (ledgerOf s) old ≡ Answered·Refused 8
   -- the same from tape, with a word whose number is 0: its numbers; "on tape it always is" long enough
-  pub answerFromTape : (w : ℕ) → T (plain w) → Shows block (shownOf (ledgerOf s) w)
+  pub answerFromTape : (number : ℕ) → T (plain number) → Shows block (shownOf (ledgerOf s) number)
   -- "And a well-formed claim marked then"
   pub mark : (ws : List ℕ) → WellFormed m n ws
       → RightMark Gets m n ls (claimFrom n (wordsIn ws)) (markedOf (ledgerOf s) ws)
@@ -137,9 +148,9 @@ pub record Decided (calls : List Call) : Type 0 where
   pub answering : (old : List ℕ)
       → answeredOf (ledgerOf (after calls)) old
       ≡ unlessRefused Answered·Refused (refusalOf (ledger calls) (queries (answers old))) (Wrote (length (answerWords (ledger calls))))
-  pub showing : (w : ℕ)
-      → shownOf (ledgerOf (after calls)) w
-      ≡ unlessRefused (λ (k : ℕ). record { refused = k; block = noBlock }) (refusalOf (ledger calls) (queries (answersFromTape w)))
+  pub showing : (number : ℕ)
+      → shownOf (ledgerOf (after calls)) number
+      ≡ unlessRefused (λ (k : ℕ). record { refused = k; block = noBlock }) (refusalOf (ledger calls) (queries (answersFromTape number)))
       (record { refused = 0; block = answerFrom (lineBlock (modulusOf (ledger calls)) (unknownsOf (ledger calls)) (linesIn (ledger calls))) })
   pub marking : (ws : List ℕ)
       → markedOf (ledgerOf (after calls)) ws
@@ -173,6 +184,14 @@ OwnBlockRight =
     → ledger calls ≡ opened m n ls → (NothingSolves m n ls → ⊥) → length (answerWords (ledger calls)) ≤ length old
     → OwnMark (markedOf (ledgerOf (after calls)) (take (length (answerWords (ledger calls))) (bufferAfter (ledgerOf (after calls)) old)))
 
+-- And it reads as itself: as a claim it is the start and the steps that it shows.
+abbrev pub OwnBlockReads : Type 0
+OwnBlockReads =
+    (calls : List Call) (m n : ℕ) (ls : List Line) (old start : List ℕ)
+    → ledger calls ≡ opened m n ls → lineStart m n ls ≡ some start → length (answerWords (ledger calls)) ≤ length old
+    → claimFrom n (wordsIn (take (length (answerWords (ledger calls))) (bufferAfter (ledgerOf (after calls)) old)))
+    ≡ from start (lineSteps m n ls)
+
 -- Zeroed memory is a sheet on which no call was made yet, and it is unopened.
 abbrev pub ZerosAreFresh : Type 0
 ZerosAreFresh = (replicate size 0 ≡ after []) × (ledgerOf (replicate size 0) ≡ unopened)
@@ -185,6 +204,20 @@ RightAlways = (s : Sheet) (m n : ℕ) (ls : List Line) → ledgerOf s ≡ opened
 abbrev pub ReadsOn : Type 0
 ReadsOn = (s : Sheet) (calls : List Call) → ledgerOf (sheetFrom s calls) ≡ ledgerFrom (ledgerOf s) calls
 
+-- What document 02 says of an opening in words, S-9, on any sheet; its words say m and n.
+pub record RightOpening (s : Sheet) (ws : List ℕ) (m n : ℕ) : Type 0 where
+  -- "right before 1, a kind 13 word .. 17": exactly where one breaks the rule
+  pub seventeen : (enteredOf (ledgerOf s) (opens ws) ≡ Entered·Refused 17) ↔ (T (topsFit (wordsIn ws)) → ⊥)
+  -- "take m in 2..4,294,967,295, so 65,536 now opens"; "n 1..16"
+  pub allowed : (enteredOf (ledgerOf s) (opens ws) ≡ Holds 0)
+      ↔ (T (isOpening (wordsIn ws)) × ((2 ≤ m) × (m ≤ largestModulus)) × ((1 ≤ n) × (n ≤ mostUnknowns)))
+  -- "Accepted open: m, n, empty list, whatever was there before."
+  pub accepted : (k : ℕ) → enteredOf (ledgerOf s) (opens ws) ≡ Holds k → ledgerOf (sheetAfter s (opens ws)) ≡ opened m n []
+
+-- Whatever the memory holds, and so after every list of calls.
+abbrev pub OpenedAlways : Type 0
+OpenedAlways = (s : Sheet) (ws : List ℕ) → RightOpening s ws (numberAt (wordsIn ws) 0) (numberAt (wordsIn ws) 1)
+
 -- "An equation record gains a modulus q that divides the sheet's m"; below 2 it is turned away
 abbrev pub LineModulus : ℕ → ℕ → Type 0
 LineModulus m q = (2 ≤ q) × Divides q m
@@ -192,7 +225,9 @@ LineModulus m q = (2 ≤ q) × Divides q m
 -- What document 02 says of an equation in words, S-3 and S-6, on a sheet whose ledger has m, n and ls, where the line
 -- has the modulus q.
 pub record RightAdding (s : Sheet) (m n : ℕ) (ls : List Line) (ws : List ℕ) (q : ℕ) : Type 0 where
-  -- "Any number of 28 bits is allowed": it is added exactly where its shape is right, q is one of a line and there is room
+  -- "right before 1, a kind 13 word .. 17": exactly where one breaks the rule
+  pub seventeen : (enteredOf (ledgerOf s) (adds ws) ≡ Entered·Refused 17) ↔ (T (topsFit (wordsIn ws)) → ⊥)
+  -- "Any number of 28 bits is allowed", and now of 32: it is added exactly where its shape is right, q is one of a line and there is room
   pub allowed : (enteredOf (ledgerOf s) (adds ws) ≡ Holds (suc (length ls)))
       ↔ (T (isEquation n (equationWords (wordsIn ws))) × LineModulus m q × (length ls < mostEquations))
   -- "right after shape and before 5, q below 2 or not dividing m 15"
@@ -242,11 +277,11 @@ pub record RightReason (s : Sheet) (m n : ℕ) (ls : List Line) (ws : List ℕ) 
   pub says : LineSays m n ls (claimFrom n (wordsIn ws)) reason shown
   -- "It writes words of kinds 6 and 7 as the answer does", into a long enough buffer that held `old`; where it shows nothing, every buffer
   -- is long enough and "keeps its content"
-  pub given : (old : List ℕ) → length shown ≤ length old
-      → (reasonedOf (ledgerOf s) ws old ≡ Gives reason (length shown))
+  pub given : (old : List ℕ) → length shown * countsFor m ≤ length old
+      → (reasonedOf (ledgerOf s) ws old ≡ Gives reason (length (wordsOf (shownKind reason) shown)))
       × (shownAfter (ledgerOf s) ws old ≡ over (wordsOf (shownKind reason) shown) old)
-  -- "then 8 for a buffer too short for this reason's words"
-  pub short : (old : List ℕ) → length old < length shown → reasonedOf (ledgerOf s) ws old ≡ Reasoned·Refused 8
+  -- "then 8 for a buffer too short for this reason's words", where "an entry that the reason tool shows, counts two words when m is above 2^28"
+  pub short : (old : List ℕ) → length old < length shown * countsFor m → reasonedOf (ledgerOf s) ws old ≡ Reasoned·Refused 8
 
 -- Whatever the memory holds, and so after every list of calls.
 abbrev pub ReasonAlways : Type 0
@@ -264,8 +299,9 @@ SameRefusals =
 pub record RightByte (m n : ℕ) (ls : List Line) (ws : List ℕ) (byte : ℕ) : Type 0 where
   -- of a well-formed claim it is the number of its mark
   pub marked : WellFormed m n ws → RightMark markNumber m n ls (claimFrom n (wordsIn ws)) byte
-  -- "Shape right? 1. Entries below m? 6."
-  pub misshapen : (byte ≡ 101) ↔ (T (isClaim n (wordsIn ws)) → ⊥)
+  -- 17 "right before 1"; "Shape right? 1. Entries below m? 6."
+  pub misplaced : (byte ≡ 117) ↔ (T (topsFit (wordsIn ws)) → ⊥)
+  pub misshapen : (byte ≡ 101) ↔ (T (topsFit (wordsIn ws)) × (T (isClaim n (wordsIn ws)) → ⊥))
   pub notBelow : (byte ≡ 106) ↔ (T (isClaim n (wordsIn ws)) × (T (allBelow m (entriesOf (wordsIn ws))) → ⊥))
 
 -- The bytes of an accepted class with these claims, on a sheet whose ledger has m, n and ls; they held `old`.
@@ -289,11 +325,14 @@ pub record RightClass (s : Sheet) (m n : ℕ) (ls : List Line) (ws old : List �
 abbrev pub ClassAlways : Type 0
 ClassAlways = (s : Sheet) (m n : ℕ) (ls : List Line) (ws old : List ℕ) → ledgerOf s ≡ opened m n ls → RightClass s m n ls ws old
 
--- "a word of another kind where a head should stand is a claim of one word and gets 101"; and so does a head "with a number above 17"
+-- "a word of another kind where a head should stand is a claim of one word and gets 101", and so does a head "with a number above 17"; a word of
+-- kind 13 that breaks the rule, "in a class, in a head's place, .. gets 117"
 abbrev pub StrayWords : Type 0
 StrayWords =
-    (m n : ℕ) (ls : List Line) (w : ℕ) (ws : List ℕ) → ((wordOf w .kind ≡ headKind) × (wordOf w .number ≤ largestHead) → ⊥)
-    → (claimsIn n (w ∷ ws) ≡ (w ∷ []) ∷ claimsIn n ws) × (markByte (markedOf (opened m n ls) (w ∷ [])) ≡ 101)
+    (m n : ℕ) (ls : List Line) (ws : List ℕ) → 0 < length ws
+    → ((firstWord ws .kind ≡ headKind) × (firstWord ws .number ≤ largestHead) → ⊥)
+    → (claimsIn n ws ≡ front 1 ws ∷ claimsIn n (behind 1 ws))
+    × (markByte (markedOf (opened m n ls) (front 1 ws)) ≡ cond (eqb (firstWord ws .kind) topKind) 117 101)
 
 -- "texts outside this grammar or over 256 bytes"
 abbrev pub NoEquation : List ℕ → Type 0

@@ -2,15 +2,19 @@
 -- before anything is written. Definitions only.
 use mathlib.Core.Path.{_≡_}
 use mathlib.Core.List.{List, []}
-use Prim.Native.Nat.{ℕ, _-_, _≤_}
+use Prim.Native.Nat.{ℕ, _-_, _*_, _≤_}
 use lib.Dec.{T}
 use lib.ListN.{length, take}
 use Rattle.questions.specs.Questions.{unlessRefused}
+use Rattle.questions.specs.Reply.{Reply}
+use Rattle.equations.specs.declared.Reason.{Reason}
 use Rattle.equations.specs.Lines.{equationsOf}
 use Rattle.equations.specs.Line.{scaled}
 use Rattle.system.specs.Posed.{Posed}
+use Rattle.words.specs.Words.{wordsOf}
 use Rattle.ledger.specs.Ledger.{Ledger, isOpened, modulusOf, linesIn}
-use Rattle.ledger.specs.Marking.{claimReason, reasonNumbers}
+use Rattle.ledger.specs.Block.{countsFor}
+use Rattle.ledger.specs.Marking.{claimReason, reasonNumbers, shownKind}
 use Rattle.ledger.specs.Calls.{marks, queries}
 use Rattle.ledger.specs.Questions.{refusalOf}
 use Rattle.asking.specs.Sees.{Sees}
@@ -19,6 +23,7 @@ use Rattle.sheet.specs.declared.Entered.the-variants.{Holds, Refused}
 use Rattle.sheet.specs.declared.reasoning.Reasoned.{Reasoned}
 use Rattle.sheet.specs.declared.reasoning.Reasoned.the-variants.{Gives, Refused as Reasoned·Refused}
 use Rattle.sheet.specs.declared.viewing.View.{View}
+use Rattle.sheet.specs.Calls.{showReply}
 use Rattle.sheet.specs.Record.{Sheet, cellsAt, cellsIn, ledgerOf}
 
 -- the numbers between the place where the cells begin and an end
@@ -47,3 +52,7 @@ explainedOf l ws =
 
 unfoldable pub explainedNumbers : Ledger → List ℕ → List ℕ
 explainedNumbers l ws = unlessRefused (λ (k : ℕ). []) (refusalOf l (queries (marks ws))) (reasonNumbers l ws)
+
+-- a reason shown with these numbers
+abbrev pub shownBy : ℕ → Reason → List ℕ → Reply Reasoned
+shownBy m reason numbers = showReply (length numbers * countsFor m) reason (wordsOf (shownKind reason) numbers)

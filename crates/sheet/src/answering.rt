@@ -11,12 +11,13 @@ use crate::CELLS_AT;
 use crate::Sheet;
 use crate::viewing::View;
 use asking::queries::answer_word_refusal;
+use blocks::block_room;
 use blocks::write_block;
 use system::limits::ENTRIES;
 use system::solving::Answer;
 use system::solving::solve;
 
-// How many words the block has, or the number of a refusal.
+// How many memory words the block has, or the number of a refusal.
 pub enum Answered {
     Wrote(usize),
     Refused(u32),
@@ -41,21 +42,21 @@ impl Sheet {
         }
         let block = block_of(sheet, view);
         let len = block.len;
-        let size = len + 1;
-        if buffer.len() < size {
+        let numbers = block.numbers;
+        let room = block_room(seen.modulus, block.head, &numbers[..len]);
+        if buffer.len() < room {
             return Answered::Refused(8);
         }
-        let numbers = block.numbers;
-        write_block(block.head, seen.unknowns, &numbers[..len], buffer);
-        Answered::Wrote(size)
+        let written = write_block(block.head, seen.unknowns, &numbers[..len], buffer);
+        Answered::Wrote(written)
     }
 
-    // An answer from tape, with its word.
-    pub fn answer_from_tape(sheet: &[u32; Sheet::SIZE], word: u32) -> Shown
-        ensures { λ r. ⌜ r ≡ shownOf (ledgerOf (now (sheet .entry))) word ⌝ }
+    // An answer from tape, with its word's number.
+    pub fn answer_from_tape(sheet: &[u32; Sheet::SIZE], number: u32) -> Shown
+        ensures { λ r. ⌜ r ≡ shownOf (ledgerOf (now (sheet .entry))) number ⌝ }
     {
         let view = Sheet::view(sheet);
-        let refusal = answer_word_refusal(view.seen, word);
+        let refusal = answer_word_refusal(view.seen, number);
         let block = if refusal == 0 {
             block_of(sheet, view)
         } else {

@@ -5,18 +5,18 @@ ghost use lib.ListN.{length};
 ghost use Rattle.slices.specs.Over.{over};
 ghost use Rattle.questions.specs.Reply.{resultOf, memoryAfter};
 ghost use Rattle.equations.specs.Vectors.{Below};
-ghost use Rattle.words.specs.Words.{numbersOfAKind, wordsOf};
 ghost use Rattle.ledger.specs.Marking.{shownKind};
 ghost use Rattle.sheet.specs.Record.{ledgerOf};
 ghost use Rattle.sheet.specs.declared.reasoning.Reasoned.the-variants.{Refused};
-ghost use Rattle.sheet.specs.Calls.{showReply, reasonedOf, shownAfter};
-ghost use Rattle.sheet.specs.View.{Views, explainedOf, explainedNumbers};
+ghost use Rattle.sheet.specs.Calls.{reasonedOf, shownAfter};
+ghost use Rattle.sheet.specs.View.{Views, explainedOf, explainedNumbers, shownBy};
 use crate::CELLS_AT;
 use crate::Sheet;
 use crate::viewing::View;
 use crate::wide;
 use asking::queries::CLAIM_ROOM;
 use asking::queries::mark_refusal;
+use blocks::counts_for;
 use equations::Reason;
 use system::explaining::explain;
 use system::limits::UNKNOWNS;
@@ -41,7 +41,7 @@ impl Sheet {
         let mut shown = [0u32; UNKNOWNS];
         let explained = explain_claim(sheet, view, words, &mut shown);
         match explained {
-            Reasoned::Gives(reason, len) => show(reason, &shown[..len], buffer),
+            Reasoned::Gives(reason, len) => show(view.seen.modulus, reason, &shown[..len], buffer),
             Reasoned::Refused(number) => Reasoned::Refused(number),
         }
     }
@@ -73,20 +73,19 @@ fn explain_claim(sheet: &[u32], view: View, words: &[u32], shown: &mut [u32]) ->
     Reasoned::Gives(reason, finding.len)
 }
 
-// The numbers as words; 8 is asked last.
-fn show(reason: Reason, numbers: &[u32], buffer: &mut [u32]) -> Reasoned
-    requires { ⌜ Below numbersOfAKind (now numbers) ⌝ }
-    ensures { λ r. ⌜ r ≡ resultOf Refused (showReply reason (wordsOf (shownKind reason) (now (numbers .entry)))) (now (buffer .entry)) ⌝ }
-    ensures { λ _. ⌜ now (buffer .exit)
-        ≡ memoryAfter (showReply reason (wordsOf (shownKind reason) (now (numbers .entry)))) (now (buffer .entry)) ⌝ }
+// The numbers, which are residues mod m, as words; 8 is asked last.
+fn show(m: u32, reason: Reason, numbers: &[u32], buffer: &mut [u32]) -> Reasoned
+    requires { ⌜ Below m (now numbers) ⌝ }
+    ensures { λ r. ⌜ r ≡ resultOf Refused (shownBy m reason (now (numbers .entry))) (now (buffer .entry)) ⌝ }
+    ensures { λ _. ⌜ now (buffer .exit) ≡ memoryAfter (shownBy m reason (now (numbers .entry))) (now (buffer .entry)) ⌝ }
 {
-    let len = numbers.len();
-    if buffer.len() < len {
+    let room = numbers.len() * counts_for(m);
+    if buffer.len() < room {
         return Reasoned::Refused(8);
     }
     let kind = kind_of(reason);
-    write(kind, numbers, buffer);
-    Reasoned::Gives(reason, len)
+    let written = write(kind, numbers, buffer);
+    Reasoned::Gives(reason, written)
 }
 
 // The kind of the words that are written beside a reason.

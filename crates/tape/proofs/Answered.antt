@@ -32,23 +32,23 @@ use Rattle.tape.specs.Reader.{linesOn}
 use Rattle.tape.specs.Model.Handed.{Block}
 use Rattle.tape.proofs.Told.{accepted-told}
 
-module _ (s : Sheet) (w : ℕ) {shown : Shown} (is : shown ≡ shownOf (ledgerOf s) w) where
+module _ (s : Sheet) (number : ℕ) {shown : Shown} (is : shown ≡ shownOf (ledgerOf s) number) where
   abbrev l : Ledger
   l = ledgerOf s
 
-  refusal-is : shown .refused ≡ refusalOf l (queries (answersFromTape w))
-  refusal-is = ap (λ (z : Shown). z .refused) is ∙ shown-refusal l w
+  refusal-is : shown .refused ≡ refusalOf l (queries (answersFromTape number))
+  refusal-is = ap (λ (z : Shown). z .refused) is ∙ shown-refusal l number
 
-  pub refused-shown : (shown .refused ≡ 0 → ⊥) → refusedLine (shown .refused) ≡ linesOn s (queries (answersFromTape w))
+  pub refused-shown : (shown .refused ≡ 0 → ⊥) → refusedLine (shown .refused) ≡ linesOn s (queries (answersFromTape number))
   unfolding callLines
   refused-shown some = rw (← refusal-is, ne-eqb (shown .refused) 0 some)
 
   module _ (none : shown .refused ≡ 0) where
-    accepted : refusalOf l (queries (answersFromTape w)) ≡ 0
+    accepted : refusalOf l (queries (answersFromTape number)) ≡ 0
     accepted = sym refusal-is ∙ none
 
     opened : T (isOpened l)
-    opened = accepted-yes l (queries (answersFromTape w)) accepted .0
+    opened = accepted-yes l (queries (answersFromTape number)) accepted .0
 
     allowed : Allowed (modulusOf l) (unknownsOf l) (linesIn l)
     allowed = reads-allowed s opened
@@ -57,7 +57,7 @@ module _ (s : Sheet) (w : ℕ) {shown : Shown} (is : shown ≡ shownOf (ledgerOf
     b = shown .block
 
     made : b ≡ answerFrom (lineBlock (modulusOf l) (unknownsOf l) (linesIn l))
-    made = ap (λ (z : Shown). z .block) is ∙ shown-block l w accepted
+    made = ap (λ (z : Shown). z .block) is ∙ shown-block l number accepted
 
     pub shown-whole : shown .block .len ≤ length (shown .block .numbers)
     shown-whole = solved-whole l b made
@@ -93,7 +93,7 @@ module _ (s : Sheet) (w : ℕ) {shown : Shown} (is : shown ≡ shownOf (ledgerOf
           })
 
       pub shown-lines : blockLines n (shown .block .head ∷ take (shown .block .len) (shown .block .numbers))
-          ≡ linesOn s (queries (answersFromTape w))
+          ≡ linesOn s (queries (answersFromTape number))
       shown-lines =
           rw same
-          (ap (blockLines (unknownsOf l)) (solved-block l allowed b made) ∙ accepted-told l (queries (answersFromTape w)) accepted)
+          (ap (blockLines (unknownsOf l)) (solved-block l allowed b made) ∙ accepted-told l (queries (answersFromTape number)) accepted)

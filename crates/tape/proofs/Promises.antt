@@ -16,7 +16,7 @@ use Rattle.system.specs.Claims.{vectorsWithin}
 use Rattle.system.specs.Lines.{lineMultipliers}
 use Rattle.system.proofs.Lines.{multipliers-refute, line-block-some, line-block-none}
 use Rattle.system.proofs.Chunks.{within-flatten}
-use Rattle.words.specs.Words.{wordOf, wordsIn}
+use Rattle.words.specs.Words.{wordsIn}
 use Rattle.ledger.specs.Ledger.{Ledger, unopened, opened}
 use Rattle.ledger.specs.Allowed.{Allowed}
 use Rattle.ledger.specs.Shapes.{claimFrom}
@@ -89,11 +89,11 @@ module _ (m n : ℕ) (ls : List Line) where
           ap (blockLines n) (line-block-none m n ls none),
         )
 
-    answer-is : (w : ℕ) → T (plain w) → callLines (ledger calls) (queries (answersFromTape w)) ≡ answerLines (opened m n ls)
-    answer-is w zero =
-        ap (λ (l : Ledger). callLines l (queries (answersFromTape w))) holds
-        ∙ sym (accepted-told (opened m n ls) (queries (answersFromTape w))
-        (answers-word-plain (opened m n ls) refl w (eqb→eq (wordOf w .number) 0 zero)))
+    answer-is : (number : ℕ) → T (plain number) → callLines (ledger calls) (queries (answersFromTape number)) ≡ answerLines (opened m n ls)
+    answer-is number zero =
+        ap (λ (l : Ledger). callLines l (queries (answersFromTape number))) holds
+        ∙ sym (accepted-told (opened m n ls) (queries (answersFromTape number))
+        (answers-word-plain (opened m n ls) refl number (eqb→eq number 0 zero)))
 
     mark-is : (ws : List ℕ) → WellFormed m n ws
         → callLines (ledger calls) (queries (marks ws)) ≡ markLine (claimMark (opened m n ls) ws)
@@ -101,8 +101,8 @@ module _ (m n : ℕ) (ls : List Line) where
         ap (λ (l : Ledger). callLines l (queries (marks ws))) holds
         ∙ sym (accepted-told (opened m n ls) (queries (marks ws)) (well-accepted m n ls ws well))
 
-    answer-printed : (w : ℕ) → T (plain w) → AnswerPrinted m n ls (callLines (ledger calls) (queries (answersFromTape w)))
-    answer-printed w zero = rw (answer-is w zero) (record { solution = solution-printed; refutation = refutation-printed })
+    answer-printed : (number : ℕ) → T (plain number) → AnswerPrinted m n ls (callLines (ledger calls) (queries (answersFromTape number)))
+    answer-printed number zero = rw (answer-is number zero) (record { solution = solution-printed; refutation = refutation-printed })
 
     mark-printed : (ws : List ℕ) → WellFormed m n ws
         → RightMark markLine m n ls (claimFrom n (wordsIn ws)) (callLines (ledger calls) (queries (marks ws)))

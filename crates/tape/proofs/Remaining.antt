@@ -7,11 +7,13 @@
 --   used-some, -fits    a word at least, and no more than there is
 use mathlib.Core.Path.{_≡_, refl, sym, ap, _∙_}
 use mathlib.Core.List.{List, [], _∷_, _++_, append-assoc}
-use Prim.Native.Nat.{ℕ, _*_, _/_, _%_, _≤_, _<_, min}
+use Prim.Native.Nat.{ℕ, _*_, _%_, _≤_, _<_}
 use native.Mathlib.Omega.{arith}
 use borrow.Author.Tests.{le-leb}
-use lib.ListN.{length, drop, getD, length-take, length-drop}
-use Rattle.slices.proofs.Parts.{drop-taken}
+use lib.ListN.{length, drop, length-drop}
+use Rattle.words.specs.declared.unpacking.Word.{Word}
+use Rattle.words.specs.Fronts.{firstWord, frontLength}
+use Rattle.words.proofs.Fronts.{front-fits, front-takes, front-length}
 use Rattle.ledger.specs.Ledger.{Ledger}
 use Rattle.ledger.specs.Calls.{Call}
 use Rattle.ledger.specs.History.{enter}
@@ -39,22 +41,24 @@ abbrev pub usedBy : Ledger → List ℕ → ℕ
 usedBy l rest = 4 * length (takenFrom l (wordsOn rest))
 
 module _ (l : Ledger) (rest : List ℕ) where
-  taken-count : length (takenFrom l (wordsOn rest)) ≡ min (wanted l (getD (wordsOn rest) 0 0)) (length rest / 4)
-  taken-count =
-      length-take (wanted l (getD (wordsOn rest) 0 0)) (wordsOn rest)
-      ∙ ap (min (wanted l (getD (wordsOn rest) 0 0))) (words-length rest)
+  abbrev first : Word
+  first = firstWord (wordsOn rest)
+
+  taken-count : length (takenFrom l (wordsOn rest)) ≡ frontLength (wanted l (firstWord (wordsOn rest))) (wordsOn rest)
+  taken-count = front-length (wanted l first) (wordsOn rest)
 
   pub used-some : 4 ≤ length rest → 4 ≤ usedBy l rest
-  used-some whole = omega (arith, taken-count, wanted-some l (getD (wordsOn rest) 0 0))
+  used-some whole =
+      let some = front-takes (wanted l first) (wordsOn rest) (wanted-some l first) (omega (arith, words-length rest)) in
+      omega (arith, taken-count, some)
 
   pub used-fits : usedBy l rest ≤ length rest
-  used-fits = omega (arith, taken-count)
+  used-fits = omega (arith, taken-count, words-length rest, front-fits (wanted l first) (wordsOn rest))
 
   behind-used : wordsOn (drop (usedBy l rest) rest) ≡ behindFirst l (wordsOn rest)
   unfolding behindFirst
   behind-used =
-      words-behind (length (takenFrom l (wordsOn rest))) rest
-      ∙ drop-taken (wanted l (getD (wordsOn rest) 0 0)) (wordsOn rest)
+      words-behind (length (takenFrom l (wordsOn rest))) rest ∙ ap (λ (k : ℕ). drop k (wordsOn rest)) taken-count
 
   left-over-used : leftOverLine (drop (usedBy l rest) rest) ≡ leftOverLine rest
   left-over-used =

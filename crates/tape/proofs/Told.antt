@@ -19,7 +19,7 @@ use Rattle.slices.specs.Over.{over}
 use Rattle.equations.specs.declared.Mark.{Mark}
 use Rattle.ledger.specs.Ledger.{Ledger, modulusOf, unknownsOf, linesIn}
 use Rattle.ledger.specs.Marking.{claimMark}
-use Rattle.ledger.specs.Calls.{Call, Entry, opens, marks, meaningless, enters, queries}
+use Rattle.ledger.specs.Calls.{Call, Entry, opens, marks, meaningless, misplaced, enters, queries}
 use Rattle.ledger.specs.Questions.{refusalOf}
 use Rattle.ledger.specs.History.{enter}
 use Rattle.ledger.proofs.Effects.{enter-accepted}
@@ -99,9 +99,13 @@ marked-told s ws is =
     (gets-or-refused (eqb (refusalOf (ledgerOf s) (queries (marks ws))) 0) (claimMark (ledgerOf s) ws)
     (refusalOf (ledgerOf s) (queries (marks ws))))
 
-pub meaningless-told : (s : Sheet) (w : ℕ) → refusedLine 1 ≡ linesOn s (queries (meaningless w))
+pub meaningless-told : (s : Sheet) (ws : List ℕ) → refusedLine 1 ≡ linesOn s (queries (meaningless ws))
 unfolding callLines refusalOf
-meaningless-told s w = refl
+meaningless-told s ws = refl
+
+pub misplaced-told : (s : Sheet) (ws : List ℕ) → refusedLine 17 ≡ linesOn s (queries (misplaced ws))
+unfolding callLines refusalOf
+misplaced-told s ws = refl
 
 pub told : (s : Sheet) (c : Call) (old : List ℕ) {after : Sheet} {lines new : List ℕ} {k : ℕ} → after ≡ left s c
     → lines ≡ linesOn s c → k ≡ length lines → new ≡ over lines old → Tells s c after old new k

@@ -4,16 +4,18 @@ use mathlib.Core.Bool.{cond, _||_}
 use mathlib.Core.List.{List}
 use Prim.Native.Nat.{ℕ, zero, suc, _+_}
 use lib.Dec.{eqb}
-use lib.ListN.{take, drop, getD}
-use Rattle.words.specs.Words.{wordOf, modulusKind, coefficientKind, minusCoefficientKind, headKind, strikeKind, answerKind, ownModulusKind}
+use Rattle.words.specs.declared.unpacking.Word.{Word}
+use Rattle.words.specs.Words.{modulusKind, coefficientKind, minusCoefficientKind, headKind, strikeKind, answerKind, ownModulusKind, topKind}
+use Rattle.words.specs.Fronts.{firstWord, front, behind}
 use Rattle.ledger.specs.Ledger.{Ledger, unknownsOf}
 use Rattle.ledger.specs.Shapes.{claimLength}
-use Rattle.ledger.specs.Calls.{opens, adds, strikes, answersFromTape, marks, meaningless, Call, enters, queries}
+use Rattle.ledger.specs.Calls.{opens, adds, strikes, answersFromTape, marks, meaningless, misplaced, Call, enters, queries}
 use Rattle.tape.specs.declared.picking.Pick.{Pick}
-use Rattle.tape.specs.declared.picking.Pick.the-variants.{Opening, Adding, OwnAdding, Marking, Striking, Answering, Nothing}
+use Rattle.tape.specs.declared.picking.Pick.the-variants.{Opening, Adding, OwnAdding, Marking, Striking, Answering, Misplaced, Nothing}
 
 -- "The first word's kind picks the call": one table. "A first word of kind 10 begins an add of n+1 words as kind 3 does"; "a word of
--- kind 12 .. begins its add".
+-- kind 12 .. begins its add". A word of kind 13 is one that breaks the rule: "A call that starts with a good kind 13 word is picked by the word
+-- after it", of which it is part.
 abbrev pub pickOf : ℕ → Pick
 pickOf kind =
     cond (eqb kind modulusKind) Opening
@@ -21,7 +23,8 @@ pickOf kind =
     (cond (eqb kind ownModulusKind) OwnAdding
     (cond (eqb kind headKind) Marking
     (cond (eqb kind strikeKind) Striking
-    (cond (eqb kind answerKind) Answering Nothing)))))
+    (cond (eqb kind answerKind) Answering
+    (cond (eqb kind topKind) Misplaced Nothing))))))
 
 -- how many words an add takes that begins with a modulus of its own: it "takes n+2 words, or one when unopened", where there are 0 unknowns
 abbrev pub ownWords : ℕ → ℕ
@@ -37,25 +40,27 @@ wantedBy n OwnAdding number = ownWords n
 wantedBy n Marking number = claimLength n number
 wantedBy n Striking number = 1
 wantedBy n Answering number = 1
+wantedBy n Misplaced number = 1
 wantedBy n Nothing number = 1
 
-abbrev pub wanted : Ledger → ℕ → ℕ
-wanted l w = wantedBy (unknownsOf l) (pickOf (wordOf w .kind)) (wordOf w .number)
+abbrev pub wanted : Ledger → Word → ℕ
+wanted l first = wantedBy (unknownsOf l) (pickOf (first .kind)) (first .number)
 
--- the call that is picked, with first word w and words ws
+-- the call that is picked, by the number of its first word and the memory of its words
 abbrev pub callBy : Pick → ℕ → List ℕ → Call
-callBy Opening w ws = enters (opens ws)
-callBy Adding w ws = enters (adds ws)
-callBy OwnAdding w ws = enters (adds ws)
-callBy Marking w ws = queries (marks ws)
-callBy Striking w ws = enters (strikes (wordOf w .number))
-callBy Answering w ws = queries (answersFromTape w)
-callBy Nothing w ws = queries (meaningless w)
+callBy Opening number ws = enters (opens ws)
+callBy Adding number ws = enters (adds ws)
+callBy OwnAdding number ws = enters (adds ws)
+callBy Marking number ws = queries (marks ws)
+callBy Striking number ws = enters (strikes number)
+callBy Answering number ws = queries (answersFromTape number)
+callBy Misplaced number ws = queries (misplaced ws)
+callBy Nothing number ws = queries (meaningless ws)
 
 -- the first call of the words that remain: "If fewer remain, all of them."
 unfoldable pub firstCall : Ledger → List ℕ → Call
-firstCall l ws = callBy (pickOf (wordOf (getD ws 0 0) .kind)) (getD ws 0 0) (take (wanted l (getD ws 0 0)) ws)
+firstCall l ws = callBy (pickOf (firstWord ws .kind)) (firstWord ws .number) (front (wanted l (firstWord ws)) ws)
 
 -- "the words that remain" behind it
 unfoldable pub behindFirst : Ledger → List ℕ → List ℕ
-behindFirst l ws = drop (wanted l (getD ws 0 0)) ws
+behindFirst l ws = behind (wanted l (firstWord ws)) ws

@@ -13,7 +13,7 @@ use Rattle.system.specs.Claims.{vectorsWithin}
 use Rattle.ledger.specs.Ledger.{Ledger, unopened, modulusOf, unknownsOf, linesIn}
 use Rattle.ledger.specs.Shapes.{numberAt}
 use Rattle.ledger.specs.Marking.{claimMark}
-use Rattle.ledger.specs.Calls.{Entry, opens, adds, types, strikes, answers, answersFromTape, marks, reasons, classes, meaningless}
+use Rattle.ledger.specs.Calls.{Entry, opens, adds, types, strikes, answers, answersFromTape, marks, reasons, classes, meaningless, misplaced}
 use Rattle.ledger.specs.Calls.{Call, enters, queries}
 use Rattle.ledger.specs.Questions.{refusalOf}
 use Rattle.ledger.specs.History.{enter}
@@ -57,13 +57,14 @@ acceptedLines l (enters (adds ws)) = line "added" (heldAfter l (adds ws))
 acceptedLines l (enters (types text)) = line "added" (heldAfter l (types text))
 acceptedLines l (enters (strikes place)) = line "struck" (heldAfter l (strikes place))
 acceptedLines l (queries (answers buffer)) = answerLines l
-acceptedLines l (queries (answersFromTape w)) = answerLines l
+acceptedLines l (queries (answersFromTape number)) = answerLines l
 acceptedLines l (queries (marks ws)) = markLine (claimMark l ws)
 -- a reason and a class have no words on tape
 acceptedLines l (queries (reasons ws buffer)) = []
 acceptedLines l (queries (classes ws bytes)) = []
--- it is never accepted
-acceptedLines l (queries (meaningless w)) = []
+-- these are never accepted
+acceptedLines l (queries (meaningless ws)) = []
+acceptedLines l (queries (misplaced ws)) = []
 
 -- "Each call gives a line": its own, or that of its refusal
 unfoldable pub callLines : Ledger → Call → List ℕ

@@ -6,12 +6,12 @@ use mathlib.Core.List.{List, _∷_, _++_, map}
 use mathlib.Core.Option.{some}
 use Prim.Native.Nat.{ℕ}
 use lib.Dec.{T, eqb}
-use lib.ListN.{getD}
 use Rattle.equations.specs.Lists.{every}
 use Rattle.equations.specs.Line.{Line, lineStart, lineSteps, lineRefutes}
 use Rattle.ledger.specs.Ledger.{Ledger, unopened, unknownsOf, opened}
 use Rattle.ledger.specs.Shapes.{claimFrom}
-use Rattle.words.specs.Words.{wordOf, wordsIn, headKind}
+use Rattle.words.specs.Words.{wordsIn, headKind}
+use Rattle.words.specs.Fronts.{firstWord}
 use Rattle.ledger.specs.Classes.{claimsIn}
 use Rattle.ledger.specs.Calls.{Call, marks, answersFromTape, queries}
 use Rattle.ledger.specs.Questions.{plain}
@@ -42,7 +42,7 @@ pub record AnswerPrinted (m n : ℕ) (ls : List Line) (printed : List ℕ) : Typ
 abbrev pub AnswersPrinted : Type 0
 AnswersPrinted =
     (calls : List Call) (m n : ℕ) (ls : List Line) → ledger calls ≡ opened m n ls
-    → (w : ℕ) → T (plain w) → AnswerPrinted m n ls (callLines (ledger calls) (queries (answersFromTape w)))
+    → (number : ℕ) → T (plain number) → AnswerPrinted m n ls (callLines (ledger calls) (queries (answersFromTape number)))
 
 -- `pass`, `long` and `fail`, after every such list, for "a well-formed claim marked then"
 abbrev pub MarksPrinted : Type 0
@@ -52,7 +52,7 @@ MarksPrinted =
 
 -- a head stands where it should
 abbrev pub hasHead : List ℕ → Bool
-hasHead claim = eqb (wordOf (getD claim 0 0) .kind) headKind
+hasHead claim = eqb (firstWord claim .kind) headKind
 
 -- "Each claim's length is taken as on the tape", S-4: the words of a class whose claims all begin with a head are, on tape, the marks of
 -- just these claims.

@@ -1,7 +1,8 @@
 -- What the reader of one call gives, said of the ledger that the sheet reads as. Definitions only.
 use mathlib.Core.List.{List}
 use Prim.Native.Nat.{ℕ, _*_}
-use lib.ListN.{length, take, getD}
+use lib.ListN.{length}
+use Rattle.words.specs.Fronts.{firstWord, front}
 use Rattle.ledger.specs.Ledger.{Ledger}
 use Rattle.ledger.specs.Calls.{Call}
 use Rattle.sheet.specs.Record.{Sheet, ledgerOf}
@@ -22,9 +23,9 @@ linesOn s c = callLines (ledgerOf s) c
 abbrev pub firstOn : Sheet → List ℕ → Call
 firstOn s rest = firstCall (ledgerOf s) (wordsOn rest)
 
--- the words that it takes
+-- the memory of the words that it takes
 abbrev pub takenFrom : Ledger → List ℕ → List ℕ
-takenFrom l ws = take (wanted l (getD ws 0 0)) ws
+takenFrom l ws = front (wanted l (firstWord ws)) ws
 
 -- the reader's step: the bytes of that call's words, and of its lines
 unfoldable pub stepOf : Sheet → List ℕ → Step

@@ -5,15 +5,13 @@ ghost use lib.ListN.{length};
 ghost use Rattle.slices.specs.Over.{over};
 ghost use Rattle.sheet.specs.History.{left};
 ghost use Rattle.tape.specs.Reader.{callRoom, linesOn, firstOn, stepOf};
-use crate::bytes::word;
-use crate::bytes::words;
 use crate::picking::call_length;
 use crate::picking::picked;
 use crate::printing::call;
+use crate::reading::CALL_MEMORY;
+use crate::reading::first_word;
+use crate::reading::take_words;
 use sheet::Sheet;
-use slices::lengths::smaller;
-use system::limits::BLOCK;
-use words::unpacking::unpack;
 
 // Bytes enough for the lines of any call.
 pub const CALL_ROOM: usize = 4096;
@@ -32,15 +30,13 @@ pub fn next(sheet: &mut [u32; Sheet::SIZE], rest: &[u8], out: &mut [u8]) -> Step
     ensures { λ _. ⌜ now (out .exit)
         ≡ over (linesOn (now (sheet .entry)) (firstOn (now (sheet .entry)) (now (rest .entry)))) (now (out .entry)) ⌝ }
 {
-    let first = word(rest);
-    let head = unpack(first);
-    let pick = picked(head.kind);
+    let first = first_word(rest);
+    let pick = picked(first.kind);
     let seen = Sheet::seen(sheet);
-    let wanted = call_length(pick, head.number, seen.unknowns);
-    let count = smaller(wanted, rest.len() / 4);
-    let mut taken = [0u32; BLOCK];
-    words(rest, count, &mut taken);
-    let written = call(sheet, pick, first, &taken[..count], out);
+    let wanted = call_length(pick, first.number, seen.unknowns);
+    let mut taken = [0u32; CALL_MEMORY];
+    let count = take_words(rest, wanted, &mut taken);
+    let written = call(sheet, pick, first.number, &taken[..count], out);
     Step {
         used: 4 * count,
         written: written,

@@ -12,6 +12,7 @@ use words::kinds::MINUS_COEFFICIENT;
 use words::kinds::MODULUS;
 use words::kinds::OWN_MODULUS;
 use words::kinds::STRIKE;
+use words::kinds::TOP;
 
 pub enum Pick {
     Opening,
@@ -20,6 +21,7 @@ pub enum Pick {
     Marking,
     Striking,
     Answering,
+    Misplaced,
     Nothing,
 }
 
@@ -35,7 +37,8 @@ pub(crate) fn picked(kind: u32) -> Pick
         HEAD => Pick::Marking,
         STRIKE => Pick::Striking,
         ANSWER => Pick::Answering,
-        0 | 2 | 4 | 6..=7 | 11 | 13..=15 => Pick::Nothing,
+        TOP => Pick::Misplaced,
+        0 | 2 | 4 | 6..=7 | 11 | 14..=15 => Pick::Nothing,
         _ => Pick::Nothing,
     }
 }
@@ -52,6 +55,7 @@ pub(crate) fn call_length(pick: Pick, number: u32, n: usize) -> usize
         Pick::Marking => claim_length(number, n),
         Pick::Striking => 1,
         Pick::Answering => 1,
+        Pick::Misplaced => 1,
         Pick::Nothing => 1,
     }
 }

@@ -3,9 +3,8 @@ ghost use mathlib.Core.Path.{_≡_};
 ghost use Prim.Native.Nat.{_≤_};
 ghost use lib.ListN.{length};
 ghost use Rattle.slices.specs.Over.{over};
-ghost use Rattle.words.specs.Words.{wordOf};
 ghost use Rattle.ledger.specs.Ledger.{mostEquations};
-ghost use Rattle.ledger.specs.Calls.{opens, adds, strikes, answersFromTape, marks, meaningless, enters, queries};
+ghost use Rattle.ledger.specs.Calls.{opens, adds, strikes, answersFromTape, marks, meaningless, misplaced, enters, queries};
 ghost use Rattle.sheet.specs.View.{heldBy};
 ghost use Rattle.tape.specs.FirstCall.{callBy};
 ghost use Rattle.tape.specs.Output.{refusedLine, markLine};
@@ -18,7 +17,6 @@ use equations::Mark;
 use sheet::Entered;
 use sheet::Sheet;
 use sheet::marking::Marked;
-use words::unpacking::unpack;
 
 pub(crate) fn refused(number: u32, out: &mut [u8]) -> usize
     requires { ⌜ callRoom ≤ length (now out) ⌝ }
@@ -91,21 +89,20 @@ fn add(sheet: &mut [u32; Sheet::SIZE], words: &[u32], out: &mut [u8]) -> usize
     entered_line(b"added", entered, out)
 }
 
-fn strike(sheet: &mut [u32; Sheet::SIZE], word: u32, out: &mut [u8]) -> usize
+fn strike(sheet: &mut [u32; Sheet::SIZE], place: u32, out: &mut [u8]) -> usize
     requires { ⌜ callRoom ≤ length (now out) ⌝ }
-    ensures { λ r. ⌜ Tells (now (sheet .entry)) (enters (strikes (wordOf word .number))) (now (sheet .exit)) (now (out .entry)) (now (out .exit)) r ⌝ }
+    ensures { λ r. ⌜ Tells (now (sheet .entry)) (enters (strikes place)) (now (sheet .exit)) (now (out .entry)) (now (out .exit)) r ⌝ }
 {
-    let struck = unpack(word);
-    let entered = Sheet::strike(sheet, struck.number);
+    let entered = Sheet::strike(sheet, place);
     entered_line(b"struck", entered, out)
 }
 
-fn answer(sheet: &[u32; Sheet::SIZE], word: u32, out: &mut [u8]) -> usize
+fn answer(sheet: &[u32; Sheet::SIZE], number: u32, out: &mut [u8]) -> usize
     requires { ⌜ callRoom ≤ length (now out) ⌝ }
-    ensures { λ r. ⌜ Tells (now (sheet .entry)) (queries (answersFromTape word)) (now (sheet .entry)) (now (out .entry)) (now (out .exit)) r ⌝ }
+    ensures { λ r. ⌜ Tells (now (sheet .entry)) (queries (answersFromTape number)) (now (sheet .entry)) (now (out .entry)) (now (out .exit)) r ⌝ }
 {
     let seen = Sheet::seen(sheet);
-    let shown = Sheet::answer_from_tape(sheet, word);
+    let shown = Sheet::answer_from_tape(sheet, number);
     if shown.refused != 0 {
         return refused(shown.refused, out);
     }
@@ -123,32 +120,41 @@ fn mark(sheet: &[u32; Sheet::SIZE], words: &[u32], out: &mut [u8]) -> usize
     marked_line(marked, out)
 }
 
-// A word that picks no call.
-fn meaningless(sheet: &[u32; Sheet::SIZE], word: u32, out: &mut [u8]) -> usize
+// A word of kind 13 that breaks the rule.
+fn misplaced(sheet: &[u32; Sheet::SIZE], words: &[u32], out: &mut [u8]) -> usize
     requires { ⌜ callRoom ≤ length (now out) ⌝ }
-    ensures { λ r. ⌜ Tells (now (sheet .entry)) (queries (meaningless word)) (now (sheet .entry)) (now (out .entry)) (now (out .exit)) r ⌝ }
+    ensures { λ r. ⌜ Tells (now (sheet .entry)) (queries (misplaced (now (words .entry)))) (now (sheet .entry)) (now (out .entry)) (now (out .exit)) r ⌝ }
+{
+    refused(17, out)
+}
+
+// A word that picks no call.
+fn meaningless(sheet: &[u32; Sheet::SIZE], words: &[u32], out: &mut [u8]) -> usize
+    requires { ⌜ callRoom ≤ length (now out) ⌝ }
+    ensures { λ r. ⌜ Tells (now (sheet .entry)) (queries (meaningless (now (words .entry)))) (now (sheet .entry)) (now (out .entry)) (now (out .exit)) r ⌝ }
 {
     refused(1, out)
 }
 
-// The call that was picked, with its first word and all its words.
+// The call that was picked, with the number of its first word and the memory of all its words.
 pub(crate) fn call(
     sheet: &mut [u32; Sheet::SIZE],
     pick: Pick,
-    first: u32,
+    number: u32,
     taken: &[u32],
     out: &mut [u8],
 ) -> usize
     requires { ⌜ callRoom ≤ length (now out) ⌝ }
-    ensures { λ r. ⌜ Tells (now (sheet .entry)) (callBy pick first (now (taken .entry))) (now (sheet .exit)) (now (out .entry)) (now (out .exit)) r ⌝ }
+    ensures { λ r. ⌜ Tells (now (sheet .entry)) (callBy pick number (now (taken .entry))) (now (sheet .exit)) (now (out .entry)) (now (out .exit)) r ⌝ }
 {
     match pick {
         Pick::Opening => open(sheet, taken, out),
         Pick::Adding => add(sheet, taken, out),
         Pick::OwnAdding => add(sheet, taken, out),
         Pick::Marking => mark(sheet, taken, out),
-        Pick::Striking => strike(sheet, first, out),
-        Pick::Answering => answer(sheet, first, out),
-        Pick::Nothing => meaningless(sheet, first, out),
+        Pick::Striking => strike(sheet, number, out),
+        Pick::Answering => answer(sheet, number, out),
+        Pick::Misplaced => misplaced(sheet, taken, out),
+        Pick::Nothing => meaningless(sheet, taken, out),
     }
 }

@@ -19,7 +19,6 @@ use Rattle.residue.specs.Residue.{residueOf}
 use Rattle.residue.proofs.Residue.{residue-below}
 use Rattle.equations.specs.Vectors.{Below}
 use Rattle.words.specs.declared.unpacking.Word.{Word}
-use Rattle.words.specs.Words.{wordsIn}
 use Rattle.words.specs.Signs.{withoutMinus, wholeOf, wholesOf, residuesOf}
 use Rattle.words.proofs.Words.{residueIn, parts-count}
 
@@ -44,7 +43,7 @@ module _ (n : ℕ) (fits : Fits w32 n) where
 
 -- ---- residues
 
-pub residues-count : (m : ℕ) (ws : List ℕ) → length (residuesOf m (wordsIn ws)) ≡ length ws
+pub residues-count : (m : ℕ) (words : List Word) → length (residuesOf m words) ≡ length words
 residues-count m = parts-count (residueIn m)
 
 pub residues-below : (m : ℕ) (words : List Word) → 0 < m → Below m (residuesOf m words)

@@ -9,15 +9,15 @@ use mathlib.Core.Path.{_≡_, sym, ap, _∙_}
 use mathlib.Core.List.{List, map}
 use Prim.Native.Nat.{ℕ, _+_, _<_, _≤_, min}
 use native.Mathlib.Omega.{arith}
-use lib.ListN.{length, take, drop, getD, set, length-map, length-take, List·getD-append}
+use lib.ListN.{length, take, drop, getD, set, length-take, List·getD-append}
 use lib.Seq.{take-all, getD-take}
 use Rattle.slices.specs.Over.{over}
 use Rattle.slices.proofs.Over.{over-front}
 use Rattle.slices.proofs.Copied.{Copied, copied-none, copied-more, copied-all}
 use Rattle.equations.specs.Vectors.{sameVector}
 use Rattle.words.specs.declared.unpacking.Word.{Word}
-use Rattle.words.specs.Words.{wordOf, wordsIn}
-use Rattle.words.proofs.Words.{parts-count, part-at}
+use Rattle.words.specs.Words.{wordsIn}
+use Rattle.words.proofs.Words.{parts-count}
 use Rattle.words.proofs.Compared.{kinds-cut}
 
 module _ (part : Word → ℕ) (c : ℕ) (ws old : List ℕ) where
@@ -28,27 +28,26 @@ module _ (part : Word → ℕ) (c : ℕ) (ws old : List ℕ) where
   abbrev pub Unpacked : ℕ → List ℕ → Type 0
   Unpacked i new = Copied i (take c parts) old new
 
-  taken-count : length (take c parts) ≡ min c (length ws)
-  taken-count = length-take c parts ∙ ap (min c) (parts-count part ws)
+  taken-count : length (take c parts) ≡ min c (length (wordsIn ws))
+  taken-count = length-take c parts ∙ ap (min c) (parts-count part (wordsIn ws))
 
   pub unpacked-none : Unpacked 0 old
   unpacked-none = copied-none (take c parts) old
 
-  pub unpacked-more : (i : ℕ) {new : List ℕ} {x : ℕ} → Unpacked i new → i < min c (length ws) → i < length old
-      → x ≡ part (wordOf (getD ws i 0)) → Unpacked (i + 1) (set new i x)
-  unpacked-more i so-far at room is =
-      copied-more i (take c parts) old 0 so-far (omega (arith, taken-count)) room
-      (is ∙ sym (getD-take c parts i 0 (omega arith) ∙ part-at part ws i (omega arith)))
+  pub unpacked-more : (i : ℕ) {new : List ℕ} {x : ℕ} → Unpacked i new → i < c → i < length (wordsIn ws) → i < length old
+      → x ≡ getD parts i 0 → Unpacked (i + 1) (set new i x)
+  unpacked-more i so-far room some at is =
+      copied-more i (take c parts) old 0 so-far (omega (arith, taken-count)) at (is ∙ sym (getD-take c parts i 0 room))
 
-  pub unpacked-all : (i : ℕ) {new : List ℕ} → Unpacked i new → i ≡ min c (length ws) → new ≡ over (take c parts) old
+  pub unpacked-all : (i : ℕ) {new : List ℕ} → Unpacked i new → i ≡ min c (length (wordsIn ws)) → new ≡ over (take c parts) old
   unpacked-all i so-far end = copied-all i (take c parts) old so-far (end ∙ sym taken-count)
 
   module _ {new : List ℕ} (front : new ≡ over (take c parts) old) where
-    pub all-seen : length ws ≤ c → new ≡ over (map part (wordsIn ws)) old
+    pub all-seen : length (wordsIn ws) ≤ c → new ≡ over (map part (wordsIn ws)) old
     all-seen few =
-        front ∙ ap (λ (xs : List ℕ). over xs old) (take-all c parts (omega (arith, parts-count part ws)))
+        front ∙ ap (λ (xs : List ℕ). over xs old) (take-all c parts (omega (arith, parts-count part (wordsIn ws))))
 
-    pub part-seen : (i : ℕ) → i < c → i < length ws → getD new i 0 ≡ getD (map part (wordsIn ws)) i 0
+    pub part-seen : (i : ℕ) → i < c → i < length (wordsIn ws) → getD new i 0 ≡ getD (map part (wordsIn ws)) i 0
     part-seen i room at =
         ap (λ (xs : List ℕ). getD xs i 0) front
         ∙ List·getD-append (take c parts) (drop (length (take c parts)) old) 0 i (omega (arith, taken-count))
@@ -56,7 +55,7 @@ module _ (part : Word → ℕ) (c : ℕ) (ws old : List ℕ) where
 
     module _ {r : ℕ} (count : r ≡ min c (length (wordsIn ws))) where
       counted : length (take c parts) ≡ r
-      counted = length-take c parts ∙ ap (min c) (length-map (wordsIn ws) part) ∙ sym count
+      counted = taken-count ∙ sym count
 
       front-is : take r new ≡ take c parts
       front-is = over-front r (take c parts) old front counted
@@ -67,5 +66,5 @@ module _ (part : Word → ℕ) (c : ℕ) (ws old : List ℕ) where
       pub kinds-seen : (ks : List ℕ) → length ks < c → sameVector (take r new) ks ≡ sameVector (map part (wordsIn ws)) ks
       kinds-seen ks few = ap (λ (xs : List ℕ). sameVector xs ks) front-is ∙ kinds-cut c parts ks few
 
-      pub parts-seen : length ws ≤ c → take r new ≡ map part (wordsIn ws)
-      parts-seen few = front-is ∙ take-all c parts (omega (arith, parts-count part ws))
+      pub parts-seen : length (wordsIn ws) ≤ c → take r new ≡ map part (wordsIn ws)
+      parts-seen few = front-is ∙ take-all c parts (omega (arith, parts-count part (wordsIn ws)))

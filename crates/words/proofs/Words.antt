@@ -1,25 +1,21 @@
 -- Words in memory.
---   words-count                      memory has as many words as places
 --   kindOf, numberOf, plainKindOf, residueIn   the parts of a word that a reader takes
---   parts-count, part-at             there are as many of one part as places, and each is that of the word there
---   kinds-count, numbers-count       so it is with kinds and numbers
---   numbers-below                    a word's number has 28 bits
---   words-kinds, words-numbers       words of one kind have the kind and the numbers that they were made of
---   word-kind, word-number           so it is with one word
-use mathlib.Core.Path.{_≡_, refl, ap₂, _∙_}
-use mathlib.Core.List.{List, [], _∷_, map}
-use Prim.Native.Nat.{ℕ, zero, suc, _<_}
+--   parts-count                      there are as many of one part as words
+--   numbers-below                    a word's number has 32 bits
+--   word-kind, word-number           a word has the kind and the number that it was made of
+--   words-fewer                      there are no more words than memory words
+use mathlib.Core.Path.{_≡_, sym, ap, subst}
+use mathlib.Core.List.{List, map}
+use Prim.Native.Nat.{ℕ, _<_, _≤_}
 use native.Mathlib.Omega.{arith}
-use lib.ListN.{length, getD, replicate, length-map}
+use lib.ListN.{length, length-map}
 use Rattle.residue.specs.Residue.{residueOf}
 use Rattle.equations.specs.Vectors.{Below}
 use Rattle.words.specs.declared.unpacking.Word.{Word}
-use Rattle.words.specs.Words.{numbersOfAKind, wordOf, word, wordsIn, kindsOf, numbersOf, wordsOf}
+use Rattle.words.specs.Words.{numbersOfAKind, wordOf, word, wordsIn, numbersOf}
 use Rattle.words.specs.Signs.{withoutMinus, wholeOf}
-
-pub words-count : (ws : List ℕ) → length (wordsIn ws) ≡ length ws
-unfolding wordsIn
-words-count ws = length-map ws wordOf
+use Rattle.words.specs.Promises.{numbersOfAWord}
+use Rattle.words.proofs.Tops.{along, carries-number, words-none, words-one, words-pair, words-single}
 
 -- the parts of a word that the readers of words take
 abbrev pub kindOf : Word → ℕ
@@ -34,40 +30,28 @@ plainKindOf w = withoutMinus (w .kind)
 abbrev pub residueIn : ℕ → Word → ℕ
 residueIn m w = residueOf m (wholeOf w)
 
-module _ (part : Word → ℕ) where
-  pub parts-count : (ws : List ℕ) → length (map part (wordsIn ws)) ≡ length ws
-  parts-count ws = length-map (wordsIn ws) part ∙ words-count ws
+pub parts-count : (part : Word → ℕ) (words : List Word) → length (map part words) ≡ length words
+parts-count part words = length-map words part
 
-  pub part-at : (ws : List ℕ) (i : ℕ) → i < length ws → getD (map part (wordsIn ws)) i 0 ≡ part (wordOf (getD ws i 0))
-  unfolding wordsIn
-  part-at [] i at = absurd (omega arith)
-  part-at (w ∷ ws) zero at = refl
-  part-at (w ∷ ws) (suc i) at = part-at ws i (omega arith)
+abbrev Below32 : List Word → Type 0
+Below32 words = Below numbersOfAWord (numbersOf words)
 
-pub kinds-count : (ws : List ℕ) → length (kindsOf (wordsIn ws)) ≡ length ws
-kinds-count = parts-count kindOf
+pub numbers-below : (ws : List ℕ) → Below numbersOfAWord (numbersOf (wordsIn ws))
+numbers-below =
+    along (λ (ws : List ℕ). Below32 (wordsIn ws)) (subst Below32 (sym words-none) tt)
+    (λ w. subst Below32 (sym (words-one w)) (omega arith, tt))
+    (λ w v ws h p. subst Below32 (sym (words-pair w v ws h)) (omega (arith, carries-number w v h), p))
+    (λ w v ws h p. subst Below32 (sym (words-single w v ws h)) (omega arith, p))
 
-pub numbers-count : (ws : List ℕ) → length (numbersOf (wordsIn ws)) ≡ length ws
-numbers-count = parts-count numberOf
-
-pub numbers-below : (ws : List ℕ) → Below numbersOfAKind (numbersOf (wordsIn ws))
-unfolding wordsIn
-numbers-below [] = tt
-numbers-below (w ∷ ws) = (omega arith, numbers-below ws)
+pub words-fewer : (ws : List ℕ) → length (wordsIn ws) ≤ length ws
+words-fewer =
+    along (λ (ws : List ℕ). length (wordsIn ws) ≤ length ws) (omega (arith, ap length words-none))
+    (λ w. omega (arith, ap length (words-one w)))
+    (λ w v ws h p. omega (arith, ap length (words-pair w v ws h), p))
+    (λ w v ws h p. omega (arith, ap length (words-single w v ws h), p))
 
 pub word-kind : (k x : ℕ) → x < numbersOfAKind → wordOf (word k x) .kind ≡ k
 word-kind k x h = omega arith
 
 pub word-number : (k x : ℕ) → x < numbersOfAKind → wordOf (word k x) .number ≡ x
 word-number k x h = omega arith
-
-pub words-numbers : (k : ℕ) (xs : List ℕ) → Below numbersOfAKind xs → numbersOf (wordsIn (wordsOf k xs)) ≡ xs
-unfolding wordsIn
-words-numbers k [] h = refl
-words-numbers k (x ∷ xs) h = ap₂ _∷_ (word-number k x (h .0)) (words-numbers k xs (h .1))
-
-pub words-kinds : (k : ℕ) (xs : List ℕ) → Below numbersOfAKind xs
-    → kindsOf (wordsIn (wordsOf k xs)) ≡ replicate (length xs) k
-unfolding wordsIn
-words-kinds k [] h = refl
-words-kinds k (x ∷ xs) h = ap₂ _∷_ (word-kind k x (h .0)) (words-kinds k xs (h .1))

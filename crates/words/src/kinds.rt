@@ -27,6 +27,8 @@ pub const MINUS_RIGHT: u32 = 11;
 
 pub const OWN_MODULUS: u32 = 12;
 
+pub const TOP: u32 = 13;
+
 // Whether there are just so many kinds, all of them this one.
 pub fn run_of(kinds: &[u32], kind: u32, count: usize) -> bool
     ensures { λ r. ⌜ r ≡ sameVector (now (kinds .entry)) (replicate count kind) ⌝ }

@@ -10,9 +10,8 @@ use crate::kinds::MINUS_COEFFICIENT;
 use crate::kinds::MINUS_RIGHT;
 use crate::kinds::RIGHT;
 use crate::unpacking::Word;
-use crate::unpacking::unpack;
+use crate::unpacking::first_at;
 use residue::modular::residue;
-use slices::lengths::smaller;
 
 fn has_minus(kind: u32) -> bool
     ensures { λ r. ⌜ r ≡ hasMinus kind ⌝ }
@@ -52,13 +51,17 @@ pub fn residues_into(memory: &[u32], m: u32, kinds: &mut [u32], residues: &mut [
     ensures { λ _. ⌜ now (residues .exit)
         ≡ over (take (length (now (kinds .entry))) (residuesOf m (wordsIn (now (memory .entry))))) (now (residues .entry)) ⌝ }
 {
-    let count = smaller(kinds.len(), memory.len());
+    let mut at: usize = 0;
     let mut i: usize = 0;
-    while i < count {
-        let word = unpack(memory[i]);
-        kinds[i] = without_minus(word.kind);
-        residues[i] = residue(whole(word), m);
+    while i < kinds.len() {
+        if at >= memory.len() {
+            return i;
+        }
+        let first = first_at(memory, at);
+        kinds[i] = without_minus(first.word.kind);
+        residues[i] = residue(whole(first.word), m);
+        at += first.length;
         i += 1;
     }
-    count
+    i
 }

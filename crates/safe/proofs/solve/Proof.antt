@@ -4,14 +4,13 @@ use mathlib.Core.List.{List}
 use mathlib.Core.Path.{_≡_, sym, subst, _∙_}
 use Prim.Native.Nat.{ℕ, _*_, _≤_}
 use native.Mathlib.Omega.{arith}
-use borrow.Author.Needs.{needs}
 use denote.Ref.{now}
 use lib.ListN.{length, take}
 use lib.Seq.{length-take-le}
 use Rattle.slices.specs.Over.{over}
 use Rattle.questions.specs.Questions.{firstNo}
 use Rattle.words.specs.Words.{wordsIn, numbersOf}
-use Rattle.words.proofs.Words.{numberOf, words-count, numbers-count}
+use Rattle.words.proofs.Words.{numberOf, parts-count}
 use Rattle.words.proofs.Unpacked.{parts-seen}
 use Rattle.safe.specs.declared.Turned.{Turned}
 use Rattle.safe.specs.Turns.{turnsOf}
@@ -19,25 +18,31 @@ use Rattle.safe.specs.Calls.{mostLocks, argumentQuestions, found, turnsR
 use Rattle.safe.specs.Model.Handed.{valuesRoom, Lockable, Gives}
 use Rattle.safe.proofs.Questions.{accepted}
 use Rattle.safe.proofs.Calls.{refused, let-in}
+use borrow.Author.Needs.{needs}
 use Rattle.safe.proofs.solve.Statement.{statement}
 use Rattle.safe.proofs.solve.Tie as tie
 
 -- where no question about the arguments turned the safe away
 module _ (m rows columns : ℕ) (values : List ℕ) {number : ℕ} (is : number ≡ firstNo (argumentQuestions m rows columns values))
     (none : number ≡ 0) where
-  few : length values ≤ mostLocks
-  few = omega (arith, accepted m rows columns values (sym is ∙ none) .few, numbers-count values)
+  safe : Lockable m rows columns (numbersOf (wordsIn values))
+  safe = accepted m rows columns values (sym is ∙ none)
+
+  few : rows * columns ≤ mostLocks
+  few = omega (arith, safe .count, safe .few)
 
   module _ (old : List ℕ) {numbers : List ℕ} (front : numbers ≡ over (take valuesRoom (numbersOf (wordsIn values))) old) where
-    all-seen : take (length values) numbers ≡ numbersOf (wordsIn values)
-    all-seen = parts-seen numberOf valuesRoom values old front {r = length values} (omega (arith, words-count values, few)) (omega (arith, few))
+    all-seen : take (rows * columns) numbers ≡ numbersOf (wordsIn values)
+    all-seen = parts-seen numberOf valuesRoom values old front {r = rows * columns}
+        (omega (arith, safe .count, few, parts-count numberOf (wordsIn values)))
+        (omega (arith, safe .few, parts-count numberOf (wordsIn values)))
 
-    lockable : Lockable m rows columns (take (length values) numbers)
-    lockable = subst (Lockable m rows columns) (sym all-seen) (accepted m rows columns values (sym is ∙ none))
+    lockable : Lockable m rows columns (take (rows * columns) numbers)
+    lockable = subst (Lockable m rows columns) (sym all-seen) safe
 
     replied : (buffer : List ℕ) {new : List ℕ} {r : Turned}
-        → (rows * columns ≡ length (take (length values) numbers)
-        → Gives (found (turnsOf m rows columns (take (length values) numbers))) buffer r new)
+        → (rows * columns ≡ length (take (rows * columns) numbers)
+        → Gives (found (turnsOf m rows columns (take (rows * columns) numbers))) buffer r new)
         → Gives (turnsReply m rows columns values) buffer r new
     replied buffer {new} {r} given =
         let-in m rows columns values buffer number is none
@@ -49,13 +54,18 @@ slice-aggregate-refusal c = search needs
 refusal-requires : tie.Need-refusal-requires
 refusal-requires c κs = search needs
 
--- the refusal
 returns : tie.Need-returns
 unfolding turnedOf bufferAfter
 returns c =
     let asked = c .before .before .refusal in
     let p = c .before .before .before .before .before .before .args in
     refused (p .m) (p .rows) (p .columns) (now (p .values)) (now (p .out)) (asked .result) (asked .ensures .0) (c .if1 .taken)
+
+mul-n : tie.Need-mul-n
+mul-n c =
+    let asked = c .before .before .refusal in
+    let p = c .before .before .before .before .before .before .args in
+    omega (arith, few (p .m) (p .rows) (p .columns) (now (p .values)) (asked .ensures .0) (c .if1 .left))
 
 array-share-prefix-numbers : tie.Need-array-share-prefix-numbers
 array-share-prefix-numbers c =
@@ -67,30 +77,25 @@ slice-aggregate-turns-into : tie.Need-slice-aggregate-turns-into
 slice-aggregate-turns-into c =
     let asked = c .before .before .before .refusal in
     let p = c .before .before .before .before .before .before .before .args in
-    sym (length-take-le (length (now (p .values))) (asked .last .1 .1 .1 .1 .0)
+    sym (length-take-le (p .rows * p .columns) (asked .last .1 .1 .1 .1 .0)
     (omega (arith, few (p .m) (p .rows) (p .columns) (now (p .values)) (asked .ensures .0) (c .before .if1 .left))))
 
 turns-into-requires : tie.Need-turns-into-requires
 turns-into-requires c κs =
     let asked = c .before .before .before .before .refusal in
-    let p = c .before .before .before .before .before .before .before .before .args in (
-      p .rows,
-      lockable (p .m) (p .rows) (p .columns) (now (p .values)) (asked .ensures .0) (c .before .before .if1 .left) _
-          (asked .ensures .1),
-    )
+    let p = c .before .before .before .before .before .before .before .before .args in
+    (p .rows, lockable (p .m) (p .rows) (p .columns) (now (p .values)) (asked .ensures .0) (c .before .before .if1 .left) _ (asked .ensures .1))
 
 same-length : tie.Need-same-length
 same-length c = search needs
 
--- the reply
 returns-2 : tie.Need-returns-2
 unfolding turnedOf bufferAfter
 returns-2 c =
     let asked = c .before .before .before .before .before .before .before .refusal in
     let p = c .before .before .before .before .before .before .before .before .before .before .before .args in
     let none = c .before .before .before .before .before .if1 .left in
-    replied (p .m) (p .rows) (p .columns) (now (p .values)) (asked .ensures .0) none _ (asked .ensures .1) (now (p .out))
-    (c .before .before .turns-into .ensures (p .rows))
+    replied (p .m) (p .rows) (p .columns) (now (p .values)) (asked .ensures .0) none _ (asked .ensures .1) (now (p .out)) (c .before .before .turns-into .ensures (p .rows))
 
 pub solve-spec : {M : Type 1} → statement M
 solve-spec =
@@ -99,6 +104,7 @@ solve-spec =
     slice-aggregate-refusal
     refusal-requires
     returns
+    mul-n
     array-share-prefix-numbers
     slice-aggregate-turns-into
     turns-into-requires

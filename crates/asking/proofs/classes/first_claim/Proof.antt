@@ -1,55 +1,32 @@
--- `classes::first_claim` meets its contract: a word of another kind is a claim of one word, a head says how many there are.
+-- `classes::first_claim` meets its contract: so many words as the first one says take that much memory.
 use mathlib.Core.Path.{sym, ap, _∙_}
-use Prim.Native.Nat.{ℕ, min}
+use Prim.Native.Nat.{ℕ}
 use native.Mathlib.Omega.{arith}
-use borrow.Author.Needs.{needs}
-use borrow.Author.Tests.{eq-eqb, ne-eqb}
 use denote.Ref.{now}
-use lib.ListN.{length, getD, length-take}
-use Rattle.words.specs.Words.{wordOf, headKind}
-use Rattle.words.proofs.Words.{kindOf, numberOf}
-use Rattle.ledger.specs.Shapes.{claimLength}
+use Rattle.words.specs.Fronts.{frontLength, firstWord}
+use Rattle.words.proofs.Fronts.{front-two, front-length}
+use Rattle.ledger.specs.Classes.{claimWords}
+use borrow.Author.Needs.{needs}
 use Rattle.asking.proofs.classes.first_claim.Statement.{statement}
 use Rattle.asking.proofs.classes.first_claim.Tie as tie
 
-shared-slice-read-unpack : tie.Need-shared-slice-read-unpack
-shared-slice-read-unpack c = search needs
+first-at-requires : tie.Need-first-at-requires
+first-at-requires c κs = search needs
 
-unpack-requires : tie.Need-unpack-requires
-unpack-requires c κs = search needs
+claim-words-requires : tie.Need-claim-words-requires
+claim-words-requires c κs = search needs
+
+front-length-requires : tie.Need-front-length-requires
+front-length-requires c κs = search needs
 
 returns : tie.Need-returns
 returns c =
-    let ws = now (c .before .before .before .before .before .args .words) in
-    let first = wordOf (getD ws 0 0) in
-    let other = ne-eqb (first .kind) headKind (λ e. c .if1 .taken (ap kindOf (c .before .before .unpack .ensures) ∙ e)) in
-    (rw other (omega (arith, length-take 1 ws)), omega arith)
-
-claim-length-requires : tie.Need-claim-length-requires
-claim-length-requires c κs = search needs
-
-smaller-requires : tie.Need-smaller-requires
-smaller-requires c κs = search needs
-
-returns-2 : tie.Need-returns-2
-returns-2 c =
-    let a = c .before .before .before .before .before .before .before .args in
+    let a = c .before .before .before .before .args in
     let ws = now (a .words) in
-    let first = wordOf (getD ws 0 0) in
-    let unpacked = c .before .before .before .before .unpack .ensures in
-    let head = eq-eqb (first .kind) headKind (sym (ap kindOf unpacked) ∙ c .before .before .if1 .left) in
-    let long = c .before .claim-length .ensures .0 ∙ ap (claimLength (a .n)) (ap numberOf unpacked) in (
-      rw head (c .smaller .ensures ∙ ap (λ (k : ℕ). min k (length ws)) long ∙ sym (length-take (claimLength (a .n) (first .number)) ws)),
-      omega (arith, c .smaller .ensures, c .before .claim-length .ensures .1),
-    )
+    let count = c .before .claim-words .ensures .0 ∙ ap (claimWords (a .n)) (c .before .before .first-at .ensures .0) in
+    let long = c .front-length .ensures ∙ ap (λ (k : ℕ). frontLength k ws) count in
+    (long ∙ sym (front-length (claimWords (a .n) (firstWord ws)) ws), omega (arith, long, count, c .before .claim-words .ensures .1, front-two (claimWords (a .n) (firstWord ws)) ws))
 
 pub first-claim-spec : {M : Type 1} → statement M
 first-claim-spec =
-    tie.close
-    (tie.spec
-    shared-slice-read-unpack
-    unpack-requires
-    returns
-    claim-length-requires
-    smaller-requires
-    returns-2)
+    tie.close (tie.spec first-at-requires claim-words-requires front-length-requires returns)

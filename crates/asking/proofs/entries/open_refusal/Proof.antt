@@ -17,6 +17,7 @@ use Rattle.ledger.specs.Questions.{allowedUnknowns, refusalOf}
 use Rattle.ledger.specs.Shapes.{numberAt, isOpening}
 use Rattle.ledger.proofs.Shapes.{opening-length}
 use Rattle.asking.specs.Sees.{openingRoom}
+use Rattle.asking.proofs.Asked.{tops-asked}
 use Rattle.asking.proofs.entries.open_refusal.Statement.{statement}
 use Rattle.asking.proofs.entries.open_refusal.Tie as tie
 
@@ -26,19 +27,25 @@ slice-aggregate-unpack-into c = search needs
 unpack-into-requires : tie.Need-unpack-into-requires
 unpack-into-requires c κs = search needs
 
+tops-fit-requires : tie.Need-tops-fit-requires
+tops-fit-requires c κs = search needs
+
+ask-requires : tie.Need-ask-requires
+ask-requires c κs = search needs
+
 array-share-prefix-kinds : tie.Need-array-share-prefix-kinds
 array-share-prefix-kinds c = search needs
 
 slice-aggregate-is-opening : tie.Need-slice-aggregate-is-opening
 slice-aggregate-is-opening c =
-    let u = c .before .before .before .before .unpack-into in
+    let u = c .before .before .before .before .before .before .unpack-into in
     front-length kindOf openingRoom _ _ (u .ensures .1 .0) (u .ensures .0)
 
 is-opening-requires : tie.Need-is-opening-requires
 is-opening-requires c κs = search needs
 
-ask-requires : tie.Need-ask-requires
-ask-requires c κs = search needs
+ask-requires-2 : tie.Need-ask-requires-2
+ask-requires-2 c κs = search needs
 
 slice-read-is-modulus : tie.Need-slice-read-is-modulus
 slice-read-is-modulus c = search needs
@@ -46,8 +53,8 @@ slice-read-is-modulus c = search needs
 is-modulus-requires : tie.Need-is-modulus-requires
 is-modulus-requires c κs = search needs
 
-ask-requires-2 : tie.Need-ask-requires-2
-ask-requires-2 c κs = search needs
+ask-requires-3 : tie.Need-ask-requires-3
+ask-requires-3 c κs = search needs
 
 slice-read-are-unknowns : tie.Need-slice-read-are-unknowns
 slice-read-are-unknowns c = search needs
@@ -58,8 +65,8 @@ cast-are-unknowns c = omega (arith, c .slice-known4 .given 1)
 are-unknowns-requires : tie.Need-are-unknowns-requires
 are-unknowns-requires c κs = search needs
 
-ask-requires-3 : tie.Need-ask-requires-3
-ask-requires-3 c κs = search needs
+ask-requires-4 : tie.Need-ask-requires-4
+ask-requires-4 c κs = search needs
 
 same-length : tie.Need-same-length
 same-length c = search needs
@@ -68,22 +75,24 @@ returns : tie.Need-returns
 unfolding refusalOf
 returns c =
     let b = c .before .before .before .before in
-    let at-unpack = b .before .before .before .before .before .before .before .before in
+    let at-unpack = b .before .before .before .before .before .before .before .before .before .before in
     let u = at-unpack .unpack-into in
     let ws = now (at-unpack .before .before .before .before .before .args .words) in
     let kinds = kinds-seen kindOf openingRoom ws _ (u .ensures .1 .0) (u .ensures .0) (modulusKind ∷ unknownsKind ∷ []) (omega arith) in
     let seen = part-seen numberOf openingRoom ws _ (u .ensures .1 .1) in
-    let two : T (isOpening (wordsIn ws)) → length ws ≡ 2 = λ yes. opening-length ws (true-of (isOpening (wordsIn ws)) yes) in
+    let two : T (isOpening (wordsIn ws)) → length (wordsIn ws) ≡ 2 =
+    λ yes. opening-length (wordsIn ws) (true-of (isOpening (wordsIn ws)) yes) in
+    let tops = tops-asked nothing-asked ws (b .before .before .before .before .before .before .tops-fit .ensures) (b .before .before .before .before .before .ask .ensures) in
     let shape =
-    then-asked nothing-asked 1 tt (isOpening (wordsIn ws)) (λ yes. b .before .before .before .is-opening .ensures ∙ kinds)
-    (b .before .before .ask .ensures) in
+    then-asked tops 1 tt (isOpening (wordsIn ws)) (λ yes. b .before .before .before .is-opening .ensures ∙ kinds)
+    (b .before .before .ask2 .ensures) in
     let modulus =
     then-asked shape 2 tt (allowedModulus (numberAt (wordsIn ws) 0))
-    (λ yes. b .is-modulus .ensures ∙ ap allowedModulus (seen 0 (omega arith) (omega (arith, two (yes .0)))))
-    (c .before .before .before .ask2 .ensures) in (
+    (λ yes. b .is-modulus .ensures ∙ ap allowedModulus (seen 0 (omega arith) (omega (arith, two (yes .1 .0)))))
+    (c .before .before .before .ask3 .ensures) in (
       then-asked modulus 3 tt (allowedUnknowns (numberAt (wordsIn ws) 1))
-          (λ yes. c .before .are-unknowns .ensures ∙ ap allowedUnknowns (seen 1 (omega arith) (omega (arith, two (yes .0)))))
-          (c .ask3 .ensures) .is,
+          (λ yes. c .before .are-unknowns .ensures ∙ ap allowedUnknowns (seen 1 (omega arith) (omega (arith, two (yes .1 .0)))))
+          (c .ask4 .ensures) .is,
       u .ensures .1 .1,
     )
 
@@ -93,16 +102,18 @@ open-refusal-spec =
     (tie.spec
     slice-aggregate-unpack-into
     unpack-into-requires
+    tops-fit-requires
+    ask-requires
     array-share-prefix-kinds
     slice-aggregate-is-opening
     is-opening-requires
-    ask-requires
+    ask-requires-2
     slice-read-is-modulus
     is-modulus-requires
-    ask-requires-2
+    ask-requires-3
     slice-read-are-unknowns
     cast-are-unknowns
     are-unknowns-requires
-    ask-requires-3
+    ask-requires-4
     same-length
     returns)

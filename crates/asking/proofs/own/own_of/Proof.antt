@@ -6,9 +6,10 @@ use native.Mathlib.Omega.{arith}
 use borrow.Author.Needs.{needs}
 use borrow.Author.Tests.{eq-eqb, ne-eqb}
 use denote.Ref.{now}
-use lib.ListN.{getD}
 use Rattle.questions.specs.Questions.{allowedOwn}
-use Rattle.words.specs.Words.{wordOf, ownModulusKind}
+use Rattle.words.specs.Words.{ownModulusKind}
+use Rattle.words.specs.Fronts.{firstWord}
+use Rattle.words.proofs.Tops.{first-fits}
 use Rattle.words.proofs.Words.{kindOf, numberOf}
 use Rattle.asking.proofs.Owned.{own-nothing, own-by-first, own-plain, own-given, either-so}
 use Rattle.asking.proofs.own.own_of.Statement.{statement}
@@ -27,11 +28,8 @@ returns c =
       (is .1 ∙ either-so (c .plain .result .allowed) (own .0), (is .2 ∙ own .1, omega (arith, is .2))),
     )
 
-shared-slice-read-unpack : tie.Need-shared-slice-read-unpack
-shared-slice-read-unpack c = search needs
-
-unpack-requires : tie.Need-unpack-requires
-unpack-requires c κs = search needs
+first-at-requires : tie.Need-first-at-requires
+first-at-requires c κs = search needs
 
 plain-requires-2 : tie.Need-plain-requires-2
 plain-requires-2 c κs = search needs
@@ -43,8 +41,8 @@ returns-2 c =
     let ws = now (z .args .words) in
     let is = c .plain2 .ensures in
     let other =
-    ne-eqb (wordOf (getD ws 0 0) .kind) ownModulusKind
-    (λ e. c .before .if2 .taken (ap kindOf (c .before .before .before .unpack .ensures) ∙ e)) in
+    ne-eqb (firstWord ws .kind) ownModulusKind
+    (λ e. c .before .if2 .taken (ap kindOf (c .before .before .before .before .first-at .ensures .0) ∙ e)) in
     let own = own-plain m ws (own-by-first ws (omega arith) ∙ other) in (
       is .0 ∙ ap (allowedOwn m) (own .0),
       (is .1 ∙ either-so (c .plain2 .result .allowed) (own .0), (is .2 ∙ own .1, omega (arith, is .2))),
@@ -59,23 +57,16 @@ returns-3 c =
     let m = z .args .m in
     let ws = now (z .args .words) in
     let is = c .given .ensures in
-    let unpacked = c .before .before .before .unpack .ensures in
-    let same = eq-eqb (wordOf (getD ws 0 0) .kind) ownModulusKind (sym (ap kindOf unpacked) ∙ c .before .if2 .left) in
+    let first = c .before .before .before .before .first-at .ensures in
+    let same = eq-eqb (firstWord ws .kind) ownModulusKind (sym (ap kindOf (first .0)) ∙ c .before .if2 .left) in
     let own = own-given m ws (omega arith) (own-by-first ws (omega arith) ∙ same) in
-    let number = ap numberOf unpacked ∙ own .0 in (
+    let number = ap numberOf (first .0) ∙ own .0 in (
       is .0 ∙ ap (allowedOwn m) number,
-      (is .1 ∙ ap (λ (q : ℕ). cond (c .given .result .allowed) q m) number, (is .2 ∙ own .1, omega (arith, is .2))),
+      (
+        is .1 ∙ ap (λ (q : ℕ). cond (c .given .result .allowed) q m) number,
+        (is .2 ∙ first .1 ∙ own .1, omega (arith, is .2, first .1, first-fits ws)),
+      ),
     )
 
 pub own-of-spec : {M : Type 1} → statement M
-own-of-spec =
-    tie.close
-    (tie.spec
-    plain-requires
-    returns
-    shared-slice-read-unpack
-    unpack-requires
-    plain-requires-2
-    returns-2
-    given-requires
-    returns-3)
+own-of-spec = tie.close (tie.spec plain-requires returns first-at-requires plain-requires-2 returns-2 given-requires returns-3)

@@ -17,7 +17,7 @@ use Rattle.ledger.specs.Questions.{refusalOf}
 use Rattle.ledger.specs.Shapes.{isClaim, entriesOf}
 use Rattle.ledger.proofs.Shapes.{claim-fits}
 use Rattle.asking.specs.Sees.{claimRoom}
-use Rattle.asking.proofs.Asked.{opened-asked}
+use Rattle.asking.proofs.Asked.{opened-asked, tops-asked}
 use Rattle.asking.proofs.ClaimSeen.{claim-seen}
 use Rattle.asking.proofs.queries.mark_refusal.Statement.{statement}
 use Rattle.asking.proofs.queries.mark_refusal.Tie as tie
@@ -56,11 +56,17 @@ entries-below-requires c κs = search needs
 ask-requires : tie.Need-ask-requires
 ask-requires c κs = search needs
 
+tops-fit-requires : tie.Need-tops-fit-requires
+tops-fit-requires c κs = search needs
+
 ask-requires-2 : tie.Need-ask-requires-2
 ask-requires-2 c κs = search needs
 
 ask-requires-3 : tie.Need-ask-requires-3
 ask-requires-3 c κs = search needs
+
+ask-requires-4 : tie.Need-ask-requires-4
+ask-requires-4 c κs = search needs
 
 same-length : tie.Need-same-length
 same-length c = search needs
@@ -68,25 +74,26 @@ same-length c = search needs
 returns : tie.Need-returns
 unfolding refusalOf
 returns c =
-    let b = c .before .before .before in
+    let b = c .before .before .before .before .before in
     let u = b .before .before .before .before .before .before .before .before .unpack-into in
     let start = b .before .before .before .before .before .before .before .before .before .before .before .before .before in
     let seen = start .args .seen in
     let ws = now (start .args .words) in
     let claim = claim-seen (seen .unknowns) (start .pre .0) ws _ _ (u .ensures .0) (u .ensures .1 .0) (u .ensures .1 .1) in (
       (λ l sees.
-          let opened = opened-asked sees (c .before .before .ask .ensures) in
+          let opened = opened-asked sees (c .before .before .before .before .ask .ensures) in
+          let tops = tops-asked opened ws (c .before .before .before .tops-fit .ensures) (c .before .before .ask2 .ensures) in
           let shape =
-          then-asked opened 1 tt (isClaim (unknownsOf l) (wordsIn ws))
+          then-asked tops 1 tt (isClaim (unknownsOf l) (wordsIn ws))
           (λ yes. b .before .before .is-claim .ensures ∙ claim ∙ ap (λ (n : ℕ). isClaim n (wordsIn ws)) (sees .unknowns))
-          (c .before .ask2 .ensures) in
+          (c .before .ask3 .ensures) in
           then-asked shape 6 tt (allBelow (modulusOf l) (entriesOf (wordsIn ws)))
           (λ yes.
-          let few = claim-fits (unknownsOf l) ws (yes .1 .0) (omega (arith, start .pre .0, sees .unknowns)) in
+          let few = claim-fits (unknownsOf l) (wordsIn ws) (yes .1 .1 .0) (omega (arith, start .pre .0, sees .unknowns)) in
           b .entries-below .ensures
           ∙ ap₂ (λ (m : ℕ) (xs : List ℕ). allBelow m (drop 1 xs)) (sees .modulus)
           (parts-seen numberOf claimRoom ws _ (u .ensures .1 .1) (u .ensures .0) (omega (arith, few))))
-          (c .ask3 .ensures) .is),
+          (c .ask4 .ensures) .is),
       u .ensures .1 .1,
     )
 
@@ -104,7 +111,9 @@ mark-refusal-spec =
     slice-aggregate-entries-below
     entries-below-requires
     ask-requires
+    tops-fit-requires
     ask-requires-2
     ask-requires-3
+    ask-requires-4
     same-length
     returns)

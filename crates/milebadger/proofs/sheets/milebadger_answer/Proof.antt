@@ -5,8 +5,7 @@ use borrow.Author.Needs.{needs}
 use denote.Ref.{now}
 use mir.Syntax.{w64}
 use mir.ValLaws.{toZ-pos}
-use Rattle.sheet.specs.Record.{ledgerOf}
-use Rattle.sheet.proofs.Answers.{wrote-fits}
+use Rattle.sheet.proofs.Answers.{wrote-few}
 use Rattle.milebadger.specs.Calls.{answeredResult}
 use Rattle.milebadger.proofs.Signed.{handed-on}
 use Rattle.milebadger.proofs.sheets.milebadger_answer.Statement.{statement}
@@ -23,7 +22,7 @@ cast-result c =
     let a = c .before .before .before .before .before .before .before .before .args in
     let k = c .before .answered .given in
     let said = c .before .before .before .before .before .answer .ensures in
-    let fits = wrote-fits (ledgerOf (now (a .sheet))) (now (a .out)) (sym (said .0) ∙ k .1) in
+    let fits = wrote-few (now (a .sheet)) (now (a .out)) (sym (said .0) ∙ k .1) in
     record { sfits = omega (arith, fits) }
 
 enum-known-answered-2 : tie.Need-enum-known-answered-2
@@ -41,7 +40,7 @@ returns c =
     let a = c .before .before .before .before .before .before .before .before .args in
     let k = c .before .answered .given in
     let said = c .before .before .before .before .before .answer .ensures in
-    let fits = wrote-fits (ledgerOf (now (a .sheet))) (now (a .out)) (sym (said .0) ∙ k .1) in
+    let fits = wrote-few (now (a .sheet)) (now (a .out)) (sym (said .0) ∙ k .1) in
     (toZ-pos w64 (k .0 .0) (omega (arith, fits)) ∙ rw (← said .0, k .1), said .1)
 
 same-length-2 : tie.Need-same-length-2

@@ -4,18 +4,17 @@ use mathlib.Core.Option.{none, some}
 use mathlib.Core.Path.{_≡_, sym, ap, _∙_}
 use Prim.Native.Nat.{ℕ, _*_}
 use native.Mathlib.Omega.{arith}
-use borrow.Author.Needs.{needs}
 use denote.Ref.{now}
 use lib.ListN.{length, take}
 use lib.Seq.{length-take-le}
-use Rattle.equations.specs.Vectors.{Below}
 use Rattle.system.specs.declared.solving.Answer.{Answer}
-use Rattle.words.specs.Words.{numbersOfAKind}
+use Rattle.words.specs.Words.{entryKind}
 use Rattle.safe.specs.declared.Turned.the-variants.{Wrote}
 use Rattle.safe.specs.Turns.{turnsOf}
 use Rattle.safe.specs.Model.Handed.{Lockable, Found}
 use Rattle.safe.proofs.Answer.{found-none, found-some}
-use Rattle.safe.proofs.Calls.{no-turns, too-short, wrote, turns-small}
+use Rattle.safe.proofs.Calls.{no-turns, too-short, wrote}
+use borrow.Author.Needs.{needs}
 use Rattle.safe.proofs.opening.turns_into.Statement.{statement}
 use Rattle.safe.proofs.opening.turns_into.Tie as tie
 
@@ -23,7 +22,6 @@ use Rattle.safe.proofs.opening.turns_into.Tie as tie
 record Shown (m columns : ℕ) (values turns : List ℕ) : Type 0 where
   are : (rows : ℕ) → rows * columns ≡ length values → turnsOf m rows columns values ≡ some turns
   long : length turns ≡ length values
-  small : Below numbersOfAKind turns
 
 module _ (m columns : ℕ) (values : List ℕ) (answer : Answer)
     (tells : (rows : ℕ) → rows * columns ≡ length values
@@ -37,7 +35,6 @@ module _ (m columns : ℕ) (values : List ℕ) (answer : Answer)
   shows h (rows, safe) size = record {
     are = are;
     long = length-take-le (length values) (answer .numbers) (omega (arith, size, safe .few));
-    small = turns-small m rows columns values (take (length values) (answer .numbers)) (are rows (safe .count)) (safe .largest);
   }
     where
       are : (rows : ℕ) → rows * columns ≡ length values
@@ -48,68 +45,81 @@ module _ (m columns : ℕ) (values : List ℕ) (answer : Answer)
 first-turns-requires : tie.Need-first-turns-requires
 first-turns-requires c κs = search needs
 
--- no turns
 returns : tie.Need-returns
-returns c rows count =
+returns c =
     let first = c .before .before .first-turns in
     let p = c .before .before .before .before .before .args in
+    λ rows count.
     no-turns (now (p .out))
     (nothing (p .m) (p .columns) (now (p .values)) (first .result) (first .ensures) (c .if1 .taken) rows count)
 
--- a buffer that is too short
-returns-2 : tie.Need-returns-2
-returns-2 c rows count =
+array-share-prefix-turns : tie.Need-array-share-prefix-turns
+array-share-prefix-turns c =
     let first = c .before .before .before .first-turns in
     let z = c .before .before .before .before .before .before in
     let p = z .args in
     let size : length (first .result .numbers) ≡ 272 = search needs in
-    let shown =
-    shows (p .m) (p .columns) (now (p .values)) (first .result) (first .ensures) (c .before .if1 .left) (z .pre) size in
-    too-short (now (p .out)) (take (length (now (p .values))) (first .result .numbers)) (shown .are rows count)
-    (omega (arith, shown .long))
-
-array-share-prefix-turns : tie.Need-array-share-prefix-turns
-array-share-prefix-turns c =
-    let first = c .before .before .before .before .first-turns in
-    let z = c .before .before .before .before .before .before .before in
-    let size : length (first .result .numbers) ≡ 272 = search needs in
     omega (arith, size, z .pre .1 .few)
 
-slice-aggregate-write : tie.Need-slice-aggregate-write
-slice-aggregate-write c =
-    let first = c .before .before .before .before .before .first-turns in
-    let z = c .before .before .before .before .before .before .before .before in
+slice-aggregate-written-length : tie.Need-slice-aggregate-written-length
+slice-aggregate-written-length c =
+    let first = c .before .before .before .before .first-turns in
+    let z = c .before .before .before .before .before .before .before in
     let p = z .args in
     let size : length (first .result .numbers) ≡ 272 = search needs in
     sym (length-take-le (length (now (p .values))) (first .result .numbers) (omega (arith, size, z .pre .1 .few)))
 
-write-requires : tie.Need-write-requires
-write-requires c κs =
+written-length-requires : tie.Need-written-length-requires
+written-length-requires c κs = search needs
+
+returns-2 : tie.Need-returns-2
+returns-2 c =
     let first = c .before .before .before .before .before .before .first-turns in
     let z = c .before .before .before .before .before .before .before .before .before in
     let p = z .args in
     let size : length (first .result .numbers) ≡ 272 = search needs in
     let shown =
-    shows (p .m) (p .columns) (now (p .values)) (first .result) (first .ensures) (c .before .before .before .before .if1 .left)
-    (z .pre) size in
-    (omega arith, shown .small, omega (arith, shown .long))
+    shows (p .m) (p .columns) (now (p .values)) (first .result) (first .ensures) (c .before .before .before .before .if1 .left) (z .pre) size in
+    let long = c .before .written-length .ensures entryKind in
+    λ rows count.
+    too-short (now (p .out)) (take (length (now (p .values))) (first .result .numbers)) (shown .are rows count) (omega (arith, long, c .if2 .taken))
+
+array-share-prefix-turns-2 : tie.Need-array-share-prefix-turns-2
+array-share-prefix-turns-2 c =
+    let first = c .before .before .before .before .before .before .first-turns in
+    let z = c .before .before .before .before .before .before .before .before .before in
+    let p = z .args in
+    let size : length (first .result .numbers) ≡ 272 = search needs in
+    omega (arith, size, z .pre .1 .few)
+
+slice-aggregate-write : tie.Need-slice-aggregate-write
+slice-aggregate-write c =
+    let first = c .before .before .before .before .before .before .before .first-turns in
+    let z = c .before .before .before .before .before .before .before .before .before .before in
+    let p = z .args in
+    let size : length (first .result .numbers) ≡ 272 = search needs in
+    sym (length-take-le (length (now (p .values))) (first .result .numbers) (omega (arith, size, z .pre .1 .few)))
+
+write-requires : tie.Need-write-requires
+write-requires c κs = (omega arith, omega (arith, c .before .before .before .written-length .ensures entryKind, c .before .before .if2 .left))
 
 same-length : tie.Need-same-length
 same-length c = search needs
 
--- the turns
 returns-3 : tie.Need-returns-3
-returns-3 c rows count =
-    let yes = c .before .before .before .before .before .before .before .if1 .left in
-    let first = c .before .before .before .before .before .before .before .before .before .first-turns in
-    let z = c .before .before .before .before .before .before .before .before .before .before .before .before in
+returns-3 c =
+    let first = c .before .before .before .before .before .before .before .before .before .before .before .first-turns in
+    let z = c .before .before .before .before .before .before .before .before .before .before .before .before .before .before in
     let p = z .args in
     let size : length (first .result .numbers) ≡ 272 = search needs in
-    let shown = shows (p .m) (p .columns) (now (p .values)) (first .result) (first .ensures) yes (z .pre) size in
+    let shown =
+    shows (p .m) (p .columns) (now (p .values)) (first .result) (first .ensures) (c .before .before .before .before .before .before .before .before .before .if1 .left) (z .pre) size in
+    let long = c .before .before .before .before .before .before .written-length .ensures entryKind in
+    let written = c .before .before .write .ensures in
+    λ rows count.
     let given =
-    wrote (now (p .out)) (take (length (now (p .values))) (first .result .numbers)) (shown .are rows count)
-    (omega (arith, shown .long)) in
-    (ap Wrote (sym (shown .long)) ∙ given .0, c .before .before .write .ensures ∙ given .1)
+    wrote (now (p .out)) (take (length (now (p .values))) (first .result .numbers)) (shown .are rows count) (omega (arith, long, c .before .before .before .before .before .if2 .left)) in
+    (ap Wrote (written .0) ∙ given .0, written .1 ∙ given .1)
 
 pub turns-into-spec : {M : Type 1} → statement M
 turns-into-spec =
@@ -117,8 +127,11 @@ turns-into-spec =
     (tie.spec
     first-turns-requires
     returns
-    returns-2
     array-share-prefix-turns
+    slice-aggregate-written-length
+    written-length-requires
+    returns-2
+    array-share-prefix-turns-2
     slice-aggregate-write
     write-requires
     same-length

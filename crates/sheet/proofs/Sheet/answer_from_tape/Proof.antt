@@ -21,7 +21,7 @@ block-of-requires c κs =
     let l = ledgerOf (now (a .sheet)) in
     let view = c .before .before .before .view .ensures .0 in
     let is = c .before .before .answer-word-refusal .ensures l (view .sees) in
-    (view, accepted-yes l (queries (answersFromTape (a .word))) (sym is ∙ c .before .if1 .taken) .0)
+    (view, accepted-yes l (queries (answersFromTape (a .number))) (sym is ∙ c .before .if1 .taken) .0)
 
 no-block-requires : tie.Need-no-block-requires
 no-block-requires c κs = search needs
@@ -32,7 +32,7 @@ returns c =
     let l = ledgerOf (now (a .sheet)) in
     let view = c .before .before .before .before .view .ensures .0 in
     let is = c .before .before .before .answer-word-refusal .ensures l (view .sees) in
-    shown-wrote l (a .word) is (sym is ∙ c .before .before .if1 .taken) (c .block-of .ensures)
+    shown-wrote l (a .number) is (sym is ∙ c .before .before .if1 .taken) (c .block-of .ensures)
 
 returns-2 : tie.Need-returns-2
 returns-2 c =
@@ -40,7 +40,7 @@ returns-2 c =
     let l = ledgerOf (now (a .sheet)) in
     let view = c .before .before .before .view .ensures .0 in
     let is = c .before .before .answer-word-refusal .ensures l (view .sees) in
-    shown-refused l (a .word) is (c .before .if1 .left) (c .no-block .ensures)
+    shown-refused l (a .number) is (c .before .if1 .left) (c .no-block .ensures)
 
 pub answer-from-tape-spec : {M : Type 1} → statement M
 answer-from-tape-spec =

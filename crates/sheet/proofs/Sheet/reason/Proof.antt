@@ -11,7 +11,6 @@ use Rattle.slices.specs.Over.{over}
 use Rattle.slices.proofs.Over.{over-front}
 use Rattle.equations.specs.declared.Reason.{Reason}
 use Rattle.equations.specs.Vectors.{Below}
-use Rattle.words.specs.Words.{numbersOfAKind}
 use Rattle.ledger.specs.Ledger.{modulusOf, unknownsOf, linesIn}
 use Rattle.ledger.specs.Allowed.{Allowed}
 use Rattle.ledger.specs.Marking.{claimReason, reasonNumbers}
@@ -45,8 +44,8 @@ module _ (s : Sheet) (ws : List ℕ) {r : Reason} {k : ℕ} {explained : Reasone
         over-front k (reasonNumbers (ledgerOf s) ws) (replicate 16 0)
         (written ∙ ap (λ (xs : List ℕ). over xs (replicate 16 0)) (numbers-are (ledgerOf s) ws (said .0))) (sym (said .2))
 
-    below : Below numbersOfAKind (take k shown)
-    below = rw front (numbers-below (ledgerOf s) ws (said .0) allowed)
+    below : {m : ℕ} → m ≡ modulusOf (ledgerOf s) → Below m (take k shown)
+    below same = rw (same, front) (numbers-below (ledgerOf s) ws (said .0) allowed)
 
 view-requires : tie.Need-view-requires
 view-requires c κs = search needs
@@ -78,7 +77,8 @@ show-requires : tie.Need-show-requires
 show-requires c κs =
     let a = c .before .before .before .before .before .before .before .before .before .before .before .before .args in
     let found = c .before .before .before .before .before .before .explain-claim in
-    below (now (a .sheet)) (now (a .words)) (found .ensures .0) (c .before .before .before .explained .given .1) (found .ensures .1)
+    let modulus = c .before .before .before .before .before .before .before .before .before .view .ensures .0 .sees .modulus in
+    below (now (a .sheet)) (now (a .words)) (found .ensures .0) (c .before .before .before .explained .given .1) (found .ensures .1) modulus
 
 enum-known-explained-2 : tie.Need-enum-known-explained-2
 enum-known-explained-2 c = search needs
@@ -95,7 +95,8 @@ returns c =
     let is = c .before .before .before .before .before .before .explained .given .1 in
     let said = said s ws (found .ensures .0) is in
     let show = c .before .before .show in
-    let shown = reason-shown (ledgerOf s) ws (now (a .buffer)) (said .0) _ _ (said .1) (front s ws (found .ensures .0) is (found .ensures .1)) in
+    let modulus = c .before .before .before .before .before .before .before .before .before .before .before .before .view .ensures .0 .sees .modulus in
+    let shown = reason-shown (ledgerOf s) ws (now (a .buffer)) (said .0) _ _ _ modulus (said .1) (front s ws (found .ensures .0) is (found .ensures .1)) in
     (show .ensures .0 ∙ shown .0, show .ensures .1 ∙ shown .1)
 
 returns-2 : tie.Need-returns-2

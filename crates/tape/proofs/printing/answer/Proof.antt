@@ -26,25 +26,25 @@ returns c =
     let a = c .before .before .before .before .before .before .before .before .before .args in
     let s = now (a .sheet) in
     let line = c .before .before .refused in
-    told s (queries (answersFromTape (a .word))) (a .out .now) refl
-    (refused-shown s (a .word) (c .before .before .before .before .before .before .answer-from-tape .ensures) (c .before .before .before .before .if1 .taken)) (line .ensures .0) (line .ensures .1)
+    told s (queries (answersFromTape (a .number))) (a .out .now) refl
+    (refused-shown s (a .number) (c .before .before .before .before .before .before .answer-from-tape .ensures) (c .before .before .before .before .if1 .taken)) (line .ensures .0) (line .ensures .1)
 
 array-share-prefix-numbers : tie.Need-array-share-prefix-numbers
 array-share-prefix-numbers c =
     let a = c .before .before .before .before .before .before .before .args in
-    shown-whole (now (a .sheet)) (a .word) (c .before .before .before .before .answer-from-tape .ensures) (c .before .before .if1 .left)
+    shown-whole (now (a .sheet)) (a .number) (c .before .before .before .before .answer-from-tape .ensures) (c .before .before .if1 .left)
 
 slice-aggregate-block-lines : tie.Need-slice-aggregate-block-lines
 slice-aggregate-block-lines c =
     let a = c .before .before .before .before .before .before .before .before .args in
     let shown = c .before .before .before .before .before .answer-from-tape in
     sym (length-take-le (shown .result .block .len) (shown .result .block .numbers)
-    (shown-whole (now (a .sheet)) (a .word) (shown .ensures) (c .before .before .before .if1 .left)))
+    (shown-whole (now (a .sheet)) (a .number) (shown .ensures) (c .before .before .before .if1 .left)))
 
 block-lines-requires : tie.Need-block-lines-requires
 block-lines-requires c κs =
     let a = c .before .before .before .before .before .before .before .before .before .args in (
-      shown-can (now (a .sheet)) (a .word) (c .before .before .before .before .before .before .answer-from-tape .ensures) (c .before .before .before .before .if1 .left) (c .before .before .before .before .before .before .before .seen .ensures .0 .unknowns),
+      shown-can (now (a .sheet)) (a .number) (c .before .before .before .before .before .before .answer-from-tape .ensures) (c .before .before .before .before .if1 .left) (c .before .before .before .before .before .before .before .seen .ensures .0 .unknowns),
       search needs,
     )
 
@@ -56,8 +56,8 @@ returns-2 c =
     let a = c .before .before .before .before .before .before .before .before .before .before .before .before .args in
     let s = now (a .sheet) in
     let line = c .before .before .block-lines in
-    told s (queries (answersFromTape (a .word))) (a .out .now) refl
-    (shown-lines s (a .word) (c .before .before .before .before .before .before .before .before .before .answer-from-tape .ensures) (c .before .before .before .before .before .before .before .if1 .left) (c .before .before .before .before .before .before .before .before .before .before .seen .ensures .0 .unknowns)) (line .ensures .0)
+    told s (queries (answersFromTape (a .number))) (a .out .now) refl
+    (shown-lines s (a .number) (c .before .before .before .before .before .before .before .before .before .answer-from-tape .ensures) (c .before .before .before .before .before .before .before .if1 .left) (c .before .before .before .before .before .before .before .before .before .before .seen .ensures .0 .unknowns)) (line .ensures .0)
     (line .ensures .1)
 
 pub answer-spec : {M : Type 1} → statement M

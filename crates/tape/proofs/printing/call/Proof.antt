@@ -1,7 +1,7 @@
 -- `printing::call` meets its contract, call by call.
-use borrow.Author.Needs.{needs}
 use denote.Ref.{now}
 use Rattle.tape.proofs.Picked.{picked-told, picked-call}
+use borrow.Author.Needs.{needs}
 use Rattle.tape.proofs.printing.call.Statement.{statement}
 use Rattle.tape.proofs.printing.call.Tie as tie
 
@@ -44,6 +44,12 @@ answer-requires c κs = search needs
 enum-told-7 : tie.Need-enum-told-7
 enum-told-7 c = search needs
 
+misplaced-requires : tie.Need-misplaced-requires
+misplaced-requires c κs = search needs
+
+enum-told-8 : tie.Need-enum-told-8
+enum-told-8 c = search needs
+
 meaningless-requires : tie.Need-meaningless-requires
 meaningless-requires c κs = search needs
 
@@ -53,7 +59,8 @@ same-length c = search needs
 returns : tie.Need-returns
 returns c =
     let a = c .before .before .before .before .before .before .before .before .before .args in
-    picked-told (now (a .sheet)) (picked-call (a .first) (now (a .taken)) (c .before .before .before .before .before .enum-told .given .1)) (c .before .before .«open» .ensures)
+    picked-told (now (a .sheet)) (picked-call (a .number) (now (a .taken)) (c .before .before .before .before .before .enum-told .given .1))
+    (c .before .before .«open» .ensures)
 
 same-length-2 : tie.Need-same-length-2
 same-length-2 c = search needs
@@ -61,7 +68,8 @@ same-length-2 c = search needs
 returns-2 : tie.Need-returns-2
 returns-2 c =
     let a = c .before .before .before .before .before .before .before .before .before .args in
-    picked-told (now (a .sheet)) (picked-call (a .first) (now (a .taken)) (c .before .before .before .before .before .enum-told2 .given .1)) (c .before .before .add .ensures)
+    picked-told (now (a .sheet)) (picked-call (a .number) (now (a .taken)) (c .before .before .before .before .before .enum-told2 .given .1))
+    (c .before .before .add .ensures)
 
 same-length-3 : tie.Need-same-length-3
 same-length-3 c = search needs
@@ -69,7 +77,8 @@ same-length-3 c = search needs
 returns-3 : tie.Need-returns-3
 returns-3 c =
     let a = c .before .before .before .before .before .before .before .before .before .args in
-    picked-told (now (a .sheet)) (picked-call (a .first) (now (a .taken)) (c .before .before .before .before .before .enum-told3 .given .1)) (c .before .before .add2 .ensures)
+    picked-told (now (a .sheet)) (picked-call (a .number) (now (a .taken)) (c .before .before .before .before .before .enum-told3 .given .1))
+    (c .before .before .add2 .ensures)
 
 same-length-4 : tie.Need-same-length-4
 same-length-4 c = search needs
@@ -77,7 +86,8 @@ same-length-4 c = search needs
 returns-4 : tie.Need-returns-4
 returns-4 c =
     let a = c .before .before .before .before .before .before .before .before .before .args in
-    picked-told (now (a .sheet)) (picked-call (a .first) (now (a .taken)) (c .before .before .before .before .before .enum-told4 .given .1)) (c .before .before .mark .ensures)
+    picked-told (now (a .sheet)) (picked-call (a .number) (now (a .taken)) (c .before .before .before .before .before .enum-told4 .given .1))
+    (c .before .before .mark .ensures)
 
 same-length-5 : tie.Need-same-length-5
 same-length-5 c = search needs
@@ -85,7 +95,8 @@ same-length-5 c = search needs
 returns-5 : tie.Need-returns-5
 returns-5 c =
     let a = c .before .before .before .before .before .before .before .before .before .args in
-    picked-told (now (a .sheet)) (picked-call (a .first) (now (a .taken)) (c .before .before .before .before .before .enum-told5 .given .1)) (c .before .before .strike .ensures)
+    picked-told (now (a .sheet)) (picked-call (a .number) (now (a .taken)) (c .before .before .before .before .before .enum-told5 .given .1))
+    (c .before .before .strike .ensures)
 
 same-length-6 : tie.Need-same-length-6
 same-length-6 c = search needs
@@ -93,7 +104,8 @@ same-length-6 c = search needs
 returns-6 : tie.Need-returns-6
 returns-6 c =
     let a = c .before .before .before .before .before .before .before .before .before .args in
-    picked-told (now (a .sheet)) (picked-call (a .first) (now (a .taken)) (c .before .before .before .before .before .enum-told6 .given .1)) (c .before .before .answer .ensures)
+    picked-told (now (a .sheet)) (picked-call (a .number) (now (a .taken)) (c .before .before .before .before .before .enum-told6 .given .1))
+    (c .before .before .answer .ensures)
 
 same-length-7 : tie.Need-same-length-7
 same-length-7 c = search needs
@@ -101,7 +113,17 @@ same-length-7 c = search needs
 returns-7 : tie.Need-returns-7
 returns-7 c =
     let a = c .before .before .before .before .before .before .before .before .before .args in
-    picked-told (now (a .sheet)) (picked-call (a .first) (now (a .taken)) (c .before .before .before .before .before .enum-told7 .given .1)) (c .before .before .meaningless .ensures)
+    picked-told (now (a .sheet)) (picked-call (a .number) (now (a .taken)) (c .before .before .before .before .before .enum-told7 .given .1))
+    (c .before .before .misplaced .ensures)
+
+same-length-8 : tie.Need-same-length-8
+same-length-8 c = search needs
+
+returns-8 : tie.Need-returns-8
+returns-8 c =
+    let a = c .before .before .before .before .before .before .before .before .before .args in
+    picked-told (now (a .sheet)) (picked-call (a .number) (now (a .taken)) (c .before .before .before .before .before .enum-told8 .given .1))
+    (c .before .before .meaningless .ensures)
 
 pub call-spec : {M : Type 1} → statement M
 call-spec =
@@ -120,6 +142,8 @@ call-spec =
     enum-told-6
     answer-requires
     enum-told-7
+    misplaced-requires
+    enum-told-8
     meaningless-requires
     same-length
     returns
@@ -134,4 +158,6 @@ call-spec =
     same-length-6
     returns-6
     same-length-7
-    returns-7)
+    returns-7
+    same-length-8
+    returns-8)

@@ -15,10 +15,10 @@ same-length c = search needs
 
 returns : tie.Need-returns
 returns c =
-    let a = c .before .before .before .before .before .args in
+    let a = c .before .before .before .before .before .before .args in
     let s = now (a .sheet) in
     let line = c .before .before .refused in
-    told s (queries (meaningless (a .word))) (a .out .now) refl (meaningless-told s (a .word)) (line .ensures .0) (line .ensures .1)
+    told s (queries (meaningless (now (a .words)))) (a .out .now) refl (meaningless-told s (now (a .words))) (line .ensures .0) (line .ensures .1)
 
 pub meaningless-spec : {M : Type 1} → statement M
 meaningless-spec =

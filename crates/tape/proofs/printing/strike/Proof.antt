@@ -1,18 +1,13 @@
 -- `printing::strike` meets its contract: what the sheet's call says is told in one line.
-use mathlib.Core.Path.{refl, ap}
-use borrow.Author.Needs.{needs}
+use mathlib.Core.Path.{refl}
 use denote.Ref.{now}
-use Rattle.words.specs.declared.unpacking.Word.{Word}
 use Rattle.ledger.specs.Calls.{strikes, enters}
 use Rattle.sheet.proofs.Few.{held-few}
 use Rattle.tape.specs.Ascii.{bytesOf}
 use Rattle.tape.proofs.Told.{told, entered-told}
-use Rattle.tape.proofs.Picked.{picked-told}
+use borrow.Author.Needs.{needs}
 use Rattle.tape.proofs.printing.strike.Statement.{statement}
 use Rattle.tape.proofs.printing.strike.Tie as tie
-
-unpack-requires : tie.Need-unpack-requires
-unpack-requires c κs = search needs
 
 strike-requires : tie.Need-strike-requires
 strike-requires c κs = search needs
@@ -22,28 +17,25 @@ slice-aggregate-entered-line c = search needs
 
 entered-line-requires : tie.Need-entered-line-requires
 entered-line-requires c κs =
-    let a = c .before .before .before .before .before .before .args in
-    (search needs, held-few (now (a .sheet)) (strikes (c .before .before .before .before .unpack .result .number)) (c .before .before .strike .ensures .0), search needs)
+    let a = c .before .before .before .before .before .args in
+    (search needs, held-few (now (a .sheet)) (strikes (a .place)) (c .before .before .strike .ensures .0), search needs)
 
 same-length : tie.Need-same-length
 same-length c = search needs
 
 returns : tie.Need-returns
 returns c =
-    let a = c .before .before .before .before .before .before .before .before .before .args in
+    let a = c .before .before .before .before .before .before .before .before .args in
     let s = now (a .sheet) in
-    let struck = c .before .before .before .before .before .before .before .unpack in
-    let call = strikes (struck .result .number) in
+    let call = strikes (a .place) in
     let said = c .before .before .before .before .before .strike .ensures in
     let line = c .before .before .entered-line in
-    picked-told s (ap (λ (w : Word). enters (strikes (w .number))) (struck .ensures))
-    (told s (enters call) (a .out .now) (said .1) (entered-told s call (said .0) (bytesOf "struck") refl) (line .ensures .0) (line .ensures .1))
+    told s (enters call) (a .out .now) (said .1) (entered-told s call (said .0) (bytesOf "struck") refl) (line .ensures .0) (line .ensures .1)
 
 pub strike-spec : {M : Type 1} → statement M
 strike-spec =
     tie.close
     (tie.spec
-    unpack-requires
     strike-requires
     slice-aggregate-entered-line
     entered-line-requires

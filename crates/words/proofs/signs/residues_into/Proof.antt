@@ -1,48 +1,60 @@
--- `signs::residues_into` meets its contract. The invariant: the first i kinds and the first i residues are written, and behind them
--- both slices are as they were. The measure is what is left.
-use mathlib.Core.Path.{ap, _∙_}
+-- `signs::residues_into` meets its contract. The invariant: the first i kinds and the first i residues are written, behind them both slices are
+-- as they were, and the first i words lie before `at`. The measure is the room left.
+use mathlib.Core.Path.{sym, ap, _∙_}
 use Prim.Native.Nat.{_≤_, _-_}
 use native.Mathlib.Omega.{arith}
-use borrow.Author.Needs.{needs}
 use lib.ListN.{length}
 use mir.Facts.{toZ-ofZ}
 use mir.Syntax.{w64}
 use mir.Val.{SFits}
 use Rattle.residue.specs.Residue.{residueOf}
 use Rattle.words.specs.Signs.{wholeOf}
-use Rattle.words.proofs.Words.{plainKindOf, residueIn, words-count}
+use Rattle.words.proofs.Words.{plainKindOf, residueIn}
+use Rattle.words.proofs.Walked.{Walked, walked-none, walked-on, walked-more, walked-part, walked-end, place-fits}
 use Rattle.words.proofs.Unpacked.{Unpacked, unpacked-none, unpacked-more, unpacked-all}
+use borrow.Author.Needs.{needs}
 use Rattle.words.proofs.signs.residues_into.Statement.{statement}
 use Rattle.words.proofs.signs.residues_into.Tie as tie
 
 abbrev Inv-loop : tie.InvT-loop
-Inv-loop memory m kinds₀ residues₀ count i₀ kinds residues i =
-    (i ≤ count) × Unpacked plainKindOf (length kinds₀) memory kinds₀ i kinds
+Inv-loop memory m kinds₀ residues₀ at₀ i₀ kinds residues at i =
+    (i ≤ length kinds₀) × Walked memory at i × Unpacked plainKindOf (length kinds₀) memory kinds₀ i kinds
     × Unpacked (residueIn m) (length kinds₀) memory residues₀ i residues
 
 abbrev μ-loop : tie.MeasureT-loop
-μ-loop memory m kinds₀ residues₀ count i₀ kinds residues i = count - i
-
-smaller-requires : tie.Need-smaller-requires Inv-loop μ-loop
-smaller-requires c κs = search needs
+μ-loop memory m kinds₀ residues₀ at₀ i₀ kinds residues at i = length kinds₀ - i
 
 loop-holds : tie.Need-loop-holds Inv-loop μ-loop
 loop-holds c =
-    let a = c .before .before .before .before .args in
+    let a = c .before .before .before .args in
     let room = length (a .kinds .now) in (
       omega arith,
+      walked-none (a .memory .now),
       unpacked-none plainKindOf room (a .memory .now) (a .kinds .now),
       unpacked-none (residueIn (a .m)) room (a .memory .now) (a .residues .now),
     )
 
-mul-unpack : tie.Need-mul-unpack Inv-loop μ-loop
-mul-unpack c = search needs
+same-length : tie.Need-same-length Inv-loop μ-loop
+same-length c = search needs
 
-shared-slice-read-unpack : tie.Need-shared-slice-read-unpack Inv-loop μ-loop
-shared-slice-read-unpack c = search needs
+same-length-2 : tie.Need-same-length-2 Inv-loop μ-loop
+same-length-2 c = search needs
 
-unpack-requires : tie.Need-unpack-requires Inv-loop μ-loop
-unpack-requires c κs = search needs
+returns : tie.Need-returns Inv-loop μ-loop
+returns c =
+    let a = c .before .before .before .before .before .before .args in
+    let l = c .before .before .loop in
+    let room = length (a .kinds .now) in
+    let end = walked-end (a .memory .now) (l .at) (l .i) (l .inv .1) (omega arith) in (
+      omega (arith, end),
+      (
+        unpacked-all plainKindOf room (a .memory .now) (a .kinds .now) (l .i) (l .inv .2) (omega (arith, end)),
+        unpacked-all (residueIn (a .m)) room (a .memory .now) (a .residues .now) (l .i) (l .inv .3) (omega (arith, end)),
+      ),
+    )
+
+first-at-requires : tie.Need-first-at-requires Inv-loop μ-loop
+first-at-requires c κs = search needs
 
 without-minus-requires : tie.Need-without-minus-requires Inv-loop μ-loop
 without-minus-requires c κs = search needs
@@ -65,6 +77,12 @@ mul-residues c = search needs
 slice-write-residues : tie.Need-slice-write-residues Inv-loop μ-loop
 slice-write-residues c = search needs
 
+add-at : tie.Need-add-at Inv-loop μ-loop
+add-at c =
+    let a = c .before .before .before .before .before .before .before .before .before .before .before .args in
+    let l = c .before .before .before .before .before .before .before .loop in
+    omega (arith, place-fits (a .memory .now) (l .at) (omega arith) (c .before .before .before .before .first-at .ensures .1))
+
 add-i : tie.Need-add-i Inv-loop μ-loop
 add-i c = search needs
 
@@ -74,33 +92,38 @@ loop-less c = search needs
 loop-again : tie.Need-loop-again Inv-loop μ-loop
 loop-again c =
     let a = c .before .before .before .before .before .before .before .before .before .before .before .args in
-    let l = c .before .before .before .before .before .before .loop in
-    let unpacked = c .before .before .before .unpack .ensures in
-    let fits : SFits w64 (c .before .whole .result) = search needs in
-    let room = length (a .kinds .now) in (
+    let l = c .before .before .before .before .before .before .before .loop in
+    let ws = a .memory .now in
+    let room = length (a .kinds .now) in
+    let first = c .before .before .before .before .first-at .ensures in
+    let fits : SFits w64 (c .before .before .whole .result) = search needs in
+    let more = walked-more ws (l .at) (omega arith) (first .1) (l .i) (l .inv .1) in
+    let part = walked-part ws (l .at) (omega arith) (first .1) (l .i) (l .inv .1) in (
       omega arith,
-      unpacked-more plainKindOf room (a .memory .now) (a .kinds .now) (l .i) (l .inv .1) (omega arith) (omega arith)
-          (c .before .before .without-minus .ensures ∙ ap plainKindOf unpacked),
-      unpacked-more (residueIn (a .m)) room (a .memory .now) (a .residues .now) (l .i) (l .inv .2) (omega arith) (omega arith)
-          (c .residue .ensures .0
-          ∙ ap (residueOf (a .m)) (toZ-ofZ {w = w64} fits ∙ c .before .whole .ensures ∙ ap wholeOf unpacked)),
+      walked-on ws (l .at) (omega arith) (first .1) (l .i) (l .inv .1),
+      unpacked-more plainKindOf room ws (a .kinds .now) (l .i) (l .inv .2) (omega arith) more (omega arith)
+          (c .before .before .before .without-minus .ensures ∙ ap plainKindOf (first .0) ∙ sym (part plainKindOf)),
+      unpacked-more (residueIn (a .m)) room ws (a .residues .now) (l .i) (l .inv .3) (omega arith) more (omega arith)
+          (c .before .residue .ensures .0
+          ∙ ap (residueOf (a .m)) (toZ-ofZ {w = w64} fits ∙ c .before .before .whole .ensures ∙ ap wholeOf (first .0))
+          ∙ sym (part (residueIn (a .m)))),
     )
 
-same-length : tie.Need-same-length Inv-loop μ-loop
-same-length c = search needs
+same-length-3 : tie.Need-same-length-3 Inv-loop μ-loop
+same-length-3 c = search needs
 
-same-length-2 : tie.Need-same-length-2 Inv-loop μ-loop
-same-length-2 c = search needs
+same-length-4 : tie.Need-same-length-4 Inv-loop μ-loop
+same-length-4 c = search needs
 
-returns : tie.Need-returns Inv-loop μ-loop
-returns c =
-    let a = c .before .before .before .before .before .before .args in
+returns-2 : tie.Need-returns-2 Inv-loop μ-loop
+returns-2 c =
+    let a = c .before .before .before .before .before .args in
     let l = c .before .loop in
     let room = length (a .kinds .now) in (
-      omega (arith, words-count (a .memory .now)),
+      omega (arith, l .inv .1 .1),
       (
-        unpacked-all plainKindOf room (a .memory .now) (a .kinds .now) (l .i) (l .inv .1) (omega arith),
-        unpacked-all (residueIn (a .m)) room (a .memory .now) (a .residues .now) (l .i) (l .inv .2) (omega arith),
+        unpacked-all plainKindOf room (a .memory .now) (a .kinds .now) (l .i) (l .inv .2) (omega (arith, l .inv .1 .1)),
+        unpacked-all (residueIn (a .m)) room (a .memory .now) (a .residues .now) (l .i) (l .inv .3) (omega (arith, l .inv .1 .1)),
       ),
     )
 
@@ -110,11 +133,11 @@ residues-into-spec =
     (tie.spec
     Inv-loop
     μ-loop
-    smaller-requires
     loop-holds
-    mul-unpack
-    shared-slice-read-unpack
-    unpack-requires
+    same-length
+    same-length-2
+    returns
+    first-at-requires
     without-minus-requires
     mul-kinds
     slice-write-kinds
@@ -122,9 +145,10 @@ residues-into-spec =
     residue-requires
     mul-residues
     slice-write-residues
+    add-at
     add-i
     loop-less
     loop-again
-    same-length
-    same-length-2
-    returns)
+    same-length-3
+    same-length-4
+    returns-2)
