@@ -21,7 +21,7 @@ use words::unpacking::tops_fit;
 pub const EQUATION_ROOM: usize = LINE + 1;
 
 // An equation in words: the number of a refusal, or 0 and the modulus of its line.
-#[derive(Drop)]
+#[derive(Clone, Copy)]
 pub struct Adding {
     pub refusal: u32,
     pub modulus: u32,

@@ -13,7 +13,7 @@ ghost use Rattle.ledger.specs.Questions.{allowed_unknowns};
 use system::limits::UNKNOWNS;
 
 // What questions ask of a sheet: whether it is opened, m, n, and how many equations it holds; all 0 where it is not.
-#[derive(Drop)]
+#[derive(Clone, Copy)]
 pub struct Seen {
     pub opened: bool,
     pub modulus: u32,

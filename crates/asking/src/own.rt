@@ -11,7 +11,7 @@ use words::unpacking::first_at;
 
 // Whether a line on the sheet may have the modulus that the words give it; this modulus, or the sheet's where it may not; and the place of
 // the first word of the equation.
-#[derive(Drop)]
+#[derive(Clone, Copy)]
 pub(crate) struct Own {
     pub allowed: bool,
     pub modulus: u32,

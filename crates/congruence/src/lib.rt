@@ -6,7 +6,7 @@ use questions::is_modulus;
 use residue::congruence::{Solutions, solve as solve_one};
 use residue::modular::residue;
 
-#[derive(Drop)]
+#[derive(Clone, Copy)]
 pub enum Solved {
     Refused(u32),
     NoSolution,

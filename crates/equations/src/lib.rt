@@ -2,7 +2,7 @@
 // alone: see specs/ and proofs/.
 
 // What a marked claim gets. A long one is right, with a step that the others make superfluous.
-#[derive(Drop)]
+#[derive(Clone, Copy)]
 pub enum Mark {
     Pass,
     Long,
@@ -10,7 +10,7 @@ pub enum Mark {
 }
 
 // Why a marked claim fails, or is long: the first reason that holds. Steps and equations count from 1.
-#[derive(Drop)]
+#[derive(Clone, Copy)]
 pub enum Reason {
     Passes,
     Solvable,

@@ -14,7 +14,7 @@ use sheet::marking::Marked;
 pub(crate) const PLACES: usize = 3;
 
 // A reason by its numbers.
-#[derive(Drop)]
+#[derive(Clone, Copy)]
 struct Named {
     number: u32,
     step: u32,

@@ -6,7 +6,7 @@ use super::division::divide;
 use super::extended::cofactors;
 use super::modular::mul;
 
-#[derive(Drop)]
+#[derive(Clone, Copy)]
 pub enum Solutions {
     NoSolution,
     // the least solution, and the spacing

@@ -2,7 +2,7 @@
 // times the divisor is taken off. Wherever both are wanted, they come from here.
 ghost use Rattle.std.specs.Prelude.{◌≡◌, ◌/◌, ◌%◌, ◌<◌};
 
-#[derive(Drop)]
+#[derive(Clone, Copy)]
 pub struct Division {
     pub quotient: u32,
     pub remainder: u32,
@@ -20,7 +20,7 @@ pub fn divide(a: u32, b: u32) -> Division
     }
 }
 
-#[derive(Drop)]
+#[derive(Clone, Copy)]
 pub struct WideDivision {
     pub quotient: u64,
     pub remainder: u64,

@@ -5,7 +5,7 @@ ghost use Rattle.residue.specs.Digits.{digits};
 
 use super::division::divide;
 
-#[derive(Drop)]
+#[derive(Clone, Copy)]
 pub struct Chain {
     pub divisor: u32,
     pub divisions: u32,

@@ -5,7 +5,7 @@ ghost use Rattle.residue.specs.Cofactors.{bezout_of};
 use super::division::divide;
 use super::modular::{signed, wide};
 
-#[derive(Drop)]
+#[derive(Clone, Copy)]
 pub struct Bezout {
     pub divisor: u32,
     pub s: u32,

@@ -17,7 +17,7 @@ pub(crate) const LOCKS: usize = 16;
 pub(crate) const VALUES_ROOM: usize = LOCKS + 1;
 
 // What the call gives back: how many memory words of turns it wrote, that no turns open the safe, or a refusal's number.
-#[derive(Drop)]
+#[derive(Clone, Copy)]
 pub enum Turned {
     Wrote(usize),
     NoTurns,

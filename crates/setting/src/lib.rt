@@ -10,7 +10,7 @@ use making::make;
 use posing::refusal;
 
 // What the call gives back: how many equations it wrote, or a refusal's number.
-#[derive(Drop)]
+#[derive(Clone, Copy)]
 pub enum Made {
     Lines(usize),
     Refused(u32),

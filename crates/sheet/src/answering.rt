@@ -15,14 +15,14 @@ use system::limits::ENTRIES;
 use system::solving::{Answer, solve};
 
 // How many memory words the block has, or the number of a refusal.
-#[derive(Drop)]
+#[derive(Clone, Copy)]
 pub enum Answered {
     Wrote(usize),
     Refused(u32),
 }
 
 // The numbers of the block, or the number of a refusal; an enum cannot hold an array.
-#[derive(Drop)]
+#[derive(Clone, Copy)]
 pub struct Shown {
     pub refused: u32,
     pub block: Answer,

@@ -15,7 +15,7 @@ use equations::Mark;
 use system::limits::BASIS;
 
 // How many claims were marked, or the number of a refusal.
-#[derive(Drop)]
+#[derive(Clone, Copy)]
 pub enum Classed {
     Claims(usize),
     Refused(u32),

@@ -29,13 +29,13 @@ pub(crate) const MODULI_AT: usize = 3;
 
 pub(crate) const CELLS_AT: usize = MODULI_AT + limits::EQUATIONS;
 
-#[derive(Drop)]
+#[derive(Clone, Copy)]
 pub struct Sheet {
     pub numbers: [u32; Sheet::SIZE],
 }
 
 // What open, add and strike say: how many equations the sheet then holds, or the number of a refusal.
-#[derive(Drop)]
+#[derive(Clone, Copy)]
 pub enum Entered {
     Holds(usize),
     Refused(u32),

@@ -13,7 +13,7 @@ use system::limits::BASIS;
 use system::marking::mark as mark_entries;
 
 // The mark, or the number of a refusal.
-#[derive(Drop)]
+#[derive(Clone, Copy)]
 pub enum Marked {
     Gets(Mark),
     Refused(u32),

@@ -20,7 +20,7 @@ use words::kinds::{ENTRY, MULTIPLIER};
 use words::writing::write;
 
 // The reason, and how many words are written beside it; or the number of a refusal.
-#[derive(Drop)]
+#[derive(Clone, Copy)]
 pub enum Reasoned {
     Gives(Reason, usize),
     Refused(u32),

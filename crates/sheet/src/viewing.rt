@@ -13,7 +13,7 @@ use system::residues::all_below;
 
 // What the questions see, and the place behind the lines, which lie from the first cell on, each n coefficients and a right side, both sides
 // times m/q: as equations mod m.
-#[derive(Drop)]
+#[derive(Clone, Copy)]
 pub(crate) struct View {
     pub seen: Seen,
     pub end: usize,

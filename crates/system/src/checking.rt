@@ -10,7 +10,7 @@ ghost use Rattle.system.specs.Model.Marking.{claim_solves};
 use tableau::products::sum;
 
 // A step that changes a line's left side, and this line; 0 and 0 where no step does.
-#[derive(Drop)]
+#[derive(Clone, Copy)]
 pub(crate) struct Change {
     pub step: u32,
     pub line: u32,

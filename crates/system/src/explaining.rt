@@ -11,7 +11,7 @@ use crate::finding::{explain_broken, explain_missing, explain_none};
 use equations::Reason;
 
 // A reason, and how many numbers are shown beside it.
-#[derive(Drop)]
+#[derive(Clone, Copy)]
 pub struct Finding {
     pub reason: Reason,
     pub len: usize,

@@ -9,7 +9,7 @@ use crate::limits::ENTRIES;
 use crate::runs::{refutation, solution};
 
 // An answer block: its head, and behind it the first len of the numbers. The others are zeros.
-#[derive(Drop)]
+#[derive(Clone, Copy)]
 pub struct Answer {
     pub head: u32,
     pub len: usize,
@@ -30,7 +30,7 @@ pub fn solve(m: u32, n: usize, lines: &[u32]) -> Answer
 }
 
 // A block whose numbers lie in lent memory: its head, and how many they are.
-#[derive(Drop)]
+#[derive(Clone, Copy)]
 pub struct Written {
     pub head: u32,
     pub len: usize,

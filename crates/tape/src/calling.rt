@@ -13,7 +13,7 @@ use sheet::Sheet;
 pub const CALL_ROOM: usize = 4096;
 
 // The bytes that a call's words take, and how many bytes its lines are.
-#[derive(Drop)]
+#[derive(Clone, Copy)]
 pub struct Step {
     pub used: usize,
     pub written: usize,

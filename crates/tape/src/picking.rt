@@ -9,7 +9,7 @@ use words::kinds::{
     ANSWER, COEFFICIENT, HEAD, MINUS_COEFFICIENT, MODULUS, OWN_MODULUS, STRIKE, TOP,
 };
 
-#[derive(Drop)]
+#[derive(Clone, Copy)]
 pub enum Pick {
     Opening,
     Adding,

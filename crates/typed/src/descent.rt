@@ -9,7 +9,7 @@ use crate::forms::{Form, joined, multiplied, number_form, unknown_form, zero};
 use crate::scan::{digits_at, is_sign, past_sign, past_spaces, peek};
 
 // What a reader gives: whether something was read, where it ends, and its form.
-#[derive(Drop)]
+#[derive(Clone, Copy)]
 pub struct Taken {
     pub good: bool,
     pub at: usize,

@@ -10,7 +10,7 @@ use crate::sides::typed_sides;
 use questions::ask;
 
 // The number of the question that turns a text away, or 0; and then the line that it adds, at the front.
-#[derive(Drop)]
+#[derive(Clone, Copy)]
 pub struct Typing {
     pub refusal: u32,
     pub line: [u32; LINE],

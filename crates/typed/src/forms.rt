@@ -17,7 +17,7 @@ pub const LINE: usize = UNKNOWNS + 1;
 
 // All that is kept of an expression: its coefficients and its plain number mod m, the number of its last unknown, and whether it is
 // linear.
-#[derive(Drop)]
+#[derive(Clone, Copy)]
 pub struct Form {
     pub coefficients: [u32; UNKNOWNS],
     pub constant: u32,

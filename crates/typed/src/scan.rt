@@ -40,7 +40,7 @@ pub(crate) fn is_sign(c: u8) -> bool
 }
 
 // The digits from i on: what they make, but no more than six digits' worth, and how many they are.
-#[derive(Drop)]
+#[derive(Clone, Copy)]
 pub struct Run {
     pub value: u32,
     pub count: usize,

@@ -14,7 +14,7 @@ use crate::scan::{past_sign, past_spaces, peek};
 const LONGEST: usize = 256;
 
 // The forms of both sides, where the text is in the grammar.
-#[derive(Drop)]
+#[derive(Clone, Copy)]
 pub struct Pair {
     pub good: bool,
     pub left: Form,

@@ -18,14 +18,14 @@ pub const NUMBERS: u32 = 268435456;
 // The largest number that a word of kind 13 may have: 4 bits.
 const LARGEST_TOP: u32 = 15;
 
-#[derive(Drop)]
+#[derive(Clone, Copy)]
 pub struct Word {
     pub kind: u32,
     pub number: u32,
 }
 
 // A word, and how many memory words it takes.
-#[derive(Drop)]
+#[derive(Clone, Copy)]
 pub struct Taken {
     pub word: Word,
     pub length: usize,
