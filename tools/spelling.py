@@ -37,7 +37,8 @@ def turner(names, before="", behind=""):
 def main():
     everywhere, lemmas, aside = table()
     # A name that moves aside does so before another one takes its place.
-    antt = [turner(aside, ".", "."), turner(lemmas, "."), turner(everywhere)]
+    aside |= {old: new for old, new in lemmas.items() if new.endswith("_lem")}
+    antt = [turner(aside, behind="."), turner({it: lemmas[it] for it in lemmas if it not in aside}), turner(everywhere)]
     code = [turner(everywhere)]
     changed = 0
     for folder, folders, files in os.walk(os.path.join(ROOT, "crates")):

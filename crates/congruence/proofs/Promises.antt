@@ -57,7 +57,7 @@ refused_by_modulus a b m k = by (allowed_modulus m) refl
 
 pub none_by_divisor : NoneByDivisor
 none_by_divisor a b m allowed =
-    let none = residue.none-by-divisor (residue_of m a) (residue_of m b) m (modulus_some m allowed) in
+    let none = residue.none_by_divisor (residue_of m a) (residue_of m b) m (modulus_some m allowed) in
     let is = of_residues a b m allowed in (
       (λ said. none.0 (solved_none (found a b m) (sym is ∙ said))),
       λ h. is ∙ ap solved_of (none.1 h),
@@ -88,7 +88,7 @@ least_and_spacing a b m t spacing said = by (allowed_modulus m) refl
     by true e =
         let positive = modulus_some m (subst T (sym e) tt) in
         describes-same (λ u. solving_residues m a b u positive)
-        (residue.least-and-spacing (residue_of m a) (residue_of m b) m t spacing positive
+        (residue.least_and_spacing (residue_of m a) (residue_of m b) m t spacing positive
         (solved_spaced (found a b m) t spacing (sym (answer_is a b m true e) ∙ said)))
     by false e =
         let same : Refused 2 ≡ Solved-as-Solutions t spacing = sym (answer_is a b m false e) ∙ said in

@@ -71,10 +71,10 @@ module _ (m n k : ℕ) (es : List Equation) (cs : List (List ℕ)) (pos : 0 < m)
     head_of_product : pivot j C * pivot i B ≡ m → row.e ≡ pivot j C
     head_of_product h =
         eq_of_mul-eq-mul_left row.d (factor_positive m row.d row.e row.factor pos) row.e (pivot j C)
-        (sym row.factor ∙ sym h ∙ ap (λ (z : ℕ). pivot j C * z) row.pivot-is ∙ mul_comm (pivot j C) row.d)
+        (sym row.factor ∙ sym h ∙ ap (λ (z : ℕ). pivot j C * z) row.pivot_is ∙ mul_comm (pivot j C) row.d)
 
     pub product_of_head : pivot j (basis m n 0 cs) ≡ row.e → pivot j (basis m n 0 cs) * pivot i (tableau m n k es) ≡ m
-    product_of_head h = ap₂ ◌*◌ h row.pivot-is ∙ mul_comm row.e row.d ∙ sym row.factor
+    product_of_head h = ap₂ ◌*◌ h row.pivot_is ∙ mul_comm row.e row.d ∙ sym row.factor
 
     kernel_head_agreed : pivot j C * pivot i B ≡ m → Head (Kernel m es) j i (pivot j C)
     kernel_head_agreed h =

@@ -46,13 +46,13 @@ module _ (m n k : ℕ) (es : List Equation) (pos : 0 < m) (shaped : Shaped n es)
       go : RowAt m k n (tableau m n k es) → start_of m n es ≡ some (tableau_start m n k es)
       go a =
           start_first m n k es pos shaped
-          (rw (last_row a) (congruent_of 0 1 (omega (arith, a.pivot-is, dot-nil a.r)), tt))
+          (rw (last_row a) (congruent_of 0 1 (omega (arith, a.pivot_is, dot-nil a.r)), tt))
 
   pub answer-none : (pivot n (tableau m n k es) ≡ m → ⊥) → start_of m n es ≡ none
   answer-none h = go (row_of n (omega arith))
     where
       no_one : (a : RowAt m k n (tableau m n k es)) → (a.d ≡ m) ⊎ (a.d < m) → Sat m ((a.d ∷ a.r) ∷ []) (1 ∷ []) → ⊥
-      no_one a (inl e) sat = h (a.pivot-is ∙ e)
+      no_one a (inl e) sat = h (a.pivot_is ∙ e)
       no_one a (inr lt) sat =
           let d≡0 : Congruent m a.d 0 = congruent_trans (congruent_of_eq (omega (arith, dot-nil a.r))) sat.0 in
           let z : a.d ≡ 0 = congruent_small lt pos d≡0 in
@@ -75,7 +75,7 @@ module _ (m n k : ℕ) (es : List Equation) (pos : 0 < m) (shaped : Shaped n es)
         go a =
             rw (row-quotient m k i (tableau m n k es) pos a)
             (step-first m n k es pos shaped i j places a.d a.e a.r a.rest a.here a.factor
-            (cofactor_below m a.d a.e pos a.factor (omega (arith, a.pivot-is))))
+            (cofactor_below m a.d a.e pos a.factor (omega (arith, a.pivot_is))))
 
     pub answer_no_step : pivot i (tableau m n k es) ≡ 1 → step_at m n es j ≡ none
     answer_no_step h = go (row_of i (omega arith))
@@ -83,4 +83,4 @@ module _ (m n k : ℕ) (es : List Equation) (pos : 0 < m) (shaped : Shaped n es)
         go : RowAt m k i (tableau m n k es) → step_at m n es j ≡ none
         go a =
             step-none m n k es pos shaped i j places a.d a.e a.r a.rest a.here a.factor
-            (sym (a.factor ∙ ap (λ (z : ℕ). z * a.e) (sym a.pivot-is ∙ h) ∙ one-mul a.e))
+            (sym (a.factor ∙ ap (λ (z : ℕ). z * a.e) (sym a.pivot_is ∙ h) ∙ one-mul a.e))

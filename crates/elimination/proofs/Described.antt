@@ -57,7 +57,7 @@ module _ (m n : ℕ) (c : List ℕ) (pos : 0 < m) (vec : Vector m n c) where
         us = combine m 1 0 s.ts s.ts
 
         length_us : length us ≡ length cs
-        length_us = length-combine m 1 0 s.ts s.ts refl ∙ s.length-ts
+        length_us = length-combine m 1 0 s.ts s.ts refl ∙ s.length_ts
 
         same : (X : List ℕ) → Congruent m (dot (combination m c cs us) X) (dot (combine m 1 1 c W) X)
         same X =

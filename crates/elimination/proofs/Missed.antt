@@ -118,13 +118,13 @@ module _ (m n : ℕ) (es : List Equation) (c : List ℕ) (ss : List (List ℕ)) 
     above f = go not_one
       where
         whole : pivot i B ≡ 1 → m ≡ row.e
-        whole one = row.factor ∙ ap (λ (z : ℕ). z * row.e) (sym row.pivot-is ∙ one) ∙ one-mul row.e
+        whole one = row.factor ∙ ap (λ (z : ℕ). z * row.e) (sym row.pivot_is ∙ one) ∙ one-mul row.e
 
         not_one : pivot i B ≡ 1 → ⊥
         not_one one = not_divided f (subst (Divides (pivot j C)) (whole one) (span_divides m n ss pos long j (omega arith)))
 
         go : (pivot i B ≡ 1 → ⊥) → 1 < pivot i B
-        go ne = omega (arith, row.pivot-is, factor_positive m row.d row.e row.factor pos)
+        go ne = omega (arith, row.pivot_is, factor_positive m row.d row.e row.factor pos)
 
     length-g : length g ≡ n
     length-g =

@@ -115,7 +115,7 @@ module _ (m n : ℕ) (es : List Equation) (pos : 0 < m) (shaped : Shaped n es) w
     where
       at : (a : Last) → (a.d ≡ m) ⊎ (a.d < m) → T (refutes m n es a.r)
       at a (inl e) =
-          absurd (none-ne-some _ (sym unsolved ∙ answer_start m n (length es) es pos shaped (a.pivot-is ∙ e)))
+          absurd (none-ne-some _ (sym unsolved ∙ answer_start m n (length es) es pos shaped (a.pivot_is ∙ e)))
       at a (inr below) = refute_by a below
 
       go : Last → T (refutes m n es (multipliers_of m n es))

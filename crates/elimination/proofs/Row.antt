@@ -49,20 +49,20 @@ row_at m k (suc i) ((d ∷ r) ∷ B) good h =
       rest = a.rest;
       here = a.here;
       factor = a.factor;
-      pivot_is = a.pivot-is;
+      pivot_is = a.pivot_is;
       long = a.long;
     }
 
 pub row-quotient : (m k i : ℕ) (B : List (List ℕ)) → 0 < m → (a : RowAt m k i B) → m / pivot i B ≡ a.e
 row-quotient m k i B pos a =
-    ap (λ (d : ℕ). m / d) a.pivot-is
+    ap (λ (d : ℕ). m / d) a.pivot_is
     ∙ div-eq_of_eq-mul_right (factor_positive m a.d a.e a.factor pos) a.factor
 
 module _ (m k i : ℕ) (B : List (List ℕ)) (pos : 0 < m) (good : Good m k B) (at : i < length B) where
   pub pivot_divides : Divides (pivot i B) m
   pivot_divides =
       let a = row_at m k i B good at in
-      record { quotient = a.e; eq = a.factor ∙ ap (λ (z : ℕ). z * a.e) (sym a.pivot-is) }
+      record { quotient = a.e; eq = a.factor ∙ ap (λ (z : ℕ). z * a.e) (sym a.pivot_is) }
 
   pub pivot_positive : 0 < pivot i B
   pivot_positive = factor_positive m (pivot i B) pivot_divides.quotient pivot_divides.eq pos

@@ -32,10 +32,10 @@ linear_span m cs = record {
     sums = λ X. congruent_trans (h X) (congruent_of_eq (sym (dot_zeros (length cs) (values cs X))));
   };
   combined = λ s t a b c p q h.
-      let same : length p.ts ≡ length q.ts = p.length-ts ∙ sym q.length-ts in
+      let same : length p.ts ≡ length q.ts = p.length_ts ∙ sym q.length_ts in
       record {
         ts = combine m s t p.ts q.ts;
-        length_ts = length-combine m s t p.ts q.ts same ∙ p.length-ts;
+        length_ts = length-combine m s t p.ts q.ts same ∙ p.length_ts;
         sums = λ X. congruent_trans (h X)
             (congruent_trans (congruent_linear s t (p.sums X) (q.sums X))
             (congruent_sym (dot-combine m s t p.ts q.ts (values cs X) same)));
@@ -49,7 +49,7 @@ span_more m c cs [] q = tt
 span_more m c cs (d ∷ ds) q = (
   record {
     ts = 0 ∷ q.0.ts;
-    length_ts = ap suc q.0.length-ts;
+    length_ts = ap suc q.0.length_ts;
     sums = λ X. congruent_trans (q.0.sums X) (congruent_of_eq (omega arith));
   },
   span_more m c cs ds q.1,
@@ -81,4 +81,4 @@ module _ (m n : ℕ) (Q : List ℕ → Type 0) (linear : Linear m Q) where
       (λ X. congruent_trans (s.sums X)
       (congruent_trans {b = dot (replicate n 0) X + dot s.ts (values cs X)}
       (congruent_of_eq (omega (arith, dot_zeros n X)))
-      (congruent_sym (dot-combination m n (replicate n 0) (length-replicate n 0) cs s.ts X long s.length-ts))))
+      (congruent_sym (dot-combination m n (replicate n 0) (length-replicate n 0) cs s.ts X long s.length_ts))))

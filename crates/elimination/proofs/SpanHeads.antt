@@ -94,7 +94,7 @@ module _ (m n : ℕ) (cs : List (List ℕ)) (pos : 0 < m) (long : Long n cs) whe
   span_head j i place = at (row_at m 0 j C good_C (omega (arith, length_C)))
     where
       at : RowAt m 0 j C → Head (Span m cs) j i (pivot j C)
-      at row = rw row.pivot-is (head_at j i place row)
+      at row = rw row.pivot_is (head_at j i place row)
 
   pub span_divides : (j : ℕ) → j < n → Divides (pivot j (basis m n 0 cs)) m
   span_divides j lt = pivot_divides m 0 j C pos good_C (omega (arith, length_C))

@@ -25,20 +25,20 @@ module _ {A : Type 0} (shown : Mark → A) (apart : Apart shown) where
   by_parts : {Right Has : Type 0} (b : Bool) (k : ℕ) → T b ↔ Right → (k ≡ 0 → Has → ⊥) → ((j : ℕ) → k ≡ suc j → Has)
       → MarkTells shown Right Has (shown (mark_with b k))
   by_parts false k same never has = record {
-    right = (⊎_elim (λ e. absurd (apart.pass-fail (sym e))) (λ e. absurd (apart.long-fail (sym e))), λ right. absurd (same.1 right));
+    right = (⊎_elim (λ e. absurd (apart.pass_fail (sym e))) (λ e. absurd (apart.long_fail (sym e))), λ right. absurd (same.1 right));
     failed = ((λ e. same.1), λ wrong. refl);
-    long = ((λ e. absurd (apart.long-fail (sym e))), λ both. absurd (same.1 both.0));
-    passed = ((λ e. absurd (apart.pass-fail (sym e))), λ both. absurd (same.1 both.0));
+    long = ((λ e. absurd (apart.long_fail (sym e))), λ both. absurd (same.1 both.0));
+    passed = ((λ e. absurd (apart.pass_fail (sym e))), λ both. absurd (same.1 both.0));
   }
   by_parts true zero same never has = record {
     right = ((λ e. same.0 tt), λ right. inl refl);
-    failed = ((λ e. absurd (apart.pass-fail e)), λ wrong. absurd (wrong (same.0 tt)));
+    failed = ((λ e. absurd (apart.pass_fail e)), λ wrong. absurd (wrong (same.0 tt)));
     long = ((λ e. absurd (apart.pass-long e)), λ both. absurd (never refl both.1));
     passed = ((λ e. (same.0 tt, never refl)), λ both. refl);
   }
   by_parts true (suc j) same never has = record {
     right = ((λ e. same.0 tt), λ right. inr refl);
-    failed = ((λ e. absurd (apart.long-fail e)), λ wrong. absurd (wrong (same.0 tt)));
+    failed = ((λ e. absurd (apart.long_fail e)), λ wrong. absurd (wrong (same.0 tt)));
     long = ((λ e. (same.0 tt, has j refl)), λ both. refl);
     passed = ((λ e. absurd (apart.pass-long (sym e))), λ both. absurd (both.1 (has j refl)));
   }

@@ -65,7 +65,7 @@ pub contradictory_equation : ContradictoryEquation
 contradictory_equation = contradiction_none
 
 pub residues_solve : ResiduesSolve
-residues_solve m n xs v positive = Whole.residues-solve m positive n xs v
+residues_solve m n xs v positive = Whole.residues_solve m positive n xs v
 
 pub right_but_long : RightButLong
 right_but_long = long-of-claim

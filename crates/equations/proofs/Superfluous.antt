@@ -69,7 +69,7 @@ module _ (p : ℕ → Bool) where
 
       behind : p j ≡ false → Place p (suc j) k l → Place p j (suc k) l
       behind e f = record {
-        from_j = omega (arith, f.from-j);
+        from_j = omega (arith, f.from_j);
         below = omega (arith, f.below);
         holds = f.holds;
         least = λ i le lt. at_or_behind j i le e (λ le'. f.least i le' lt);

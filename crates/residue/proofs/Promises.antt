@@ -22,10 +22,10 @@ pub short_chain : ShortChain
 short_chain = lame
 
 pub residue_of_lem : ResidueOf
-residue_of_lem = R.residue-of
+residue_of_lem = R.residue_of_lem
 
 pub minus_one_and_zero : MinusOneAndZero
-minus_one_and_zero m h = (R.minus_one m h, R.minus-zero m)
+minus_one_and_zero m h = (R.minus_one_lem m h, R.minus-zero m)
 
 -- an answer is not both
 not_both : (a b m : ℕ) → 0 < m → b % gcd a m ≡ 0 → solutions_of a b m ≡ NoSolution → ⊥

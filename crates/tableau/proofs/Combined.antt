@@ -85,7 +85,7 @@ both_start m s t p n a b = record { passed = zero-le; row-length = refl; line-le
 both_read : (m s t p n : ℕ) (a b : List ℕ) (i : ℕ) (row line : List ℕ) → length a ≡ length b → i < length a
     → Both m s t p n a b i row line → (get_or row i 0 ≡ get_or a i 0) × (get_or line i 0 ≡ get_or b i 0)
 both_read m s t p n a b i row line h l B =
-    (combined-read m s t i a b a row h refl l B.row_is, combined-read m p n i a b b line h (sym h) l B.line-is)
+    (combined-read m s t i a b a row h refl l B.row_is, combined-read m p n i a b b line h (sym h) l B.line_is)
 
 pub both_below : (m s t p n : ℕ) (a b : List ℕ) (i : ℕ) (row line : List ℕ) → length a ≡ length b → i < length a
     → Below m a → Below m b → Both m s t p n a b i row line → (get_or row i 0 < m) × (get_or line i 0 < m)
@@ -103,14 +103,14 @@ both_next m s t p n a b i row line x y h l B e f =
       row-length = length-set row i x ∙ B.row-length;
       line-length = length-set line i y ∙ B.line-length;
       row_is = combined-next m s t i x (get_or row i 0) (get_or line i 0) a b a row h refl l B.row_is r.0 r.1 e;
-      line_is = combined-next m p n i y (get_or row i 0) (get_or line i 0) a b b line h (sym h) l B.line-is r.0 r.1 f;
+      line_is = combined-next m p n i y (get_or row i 0) (get_or line i 0) a b b line h (sym h) l B.line_is r.0 r.1 f;
     }
 
 pub both_end : (m s t p n : ℕ) (a b : List ℕ) (i : ℕ) (row line : List ℕ) → length a ≡ length b → length row ≤ i
     → Both m s t p n a b i row line → (row ≡ combine m s t a b) × (line ≡ combine m p n a b)
 both_end m s t p n a b i row line h l B =
     let e : i ≡ length a = omega (arith, B.passed, B.row-length) in
-    (combined_end m s t i a b a row h refl e B.row_is, combined_end m p n i a b b line h (sym h) e B.line-is)
+    (combined_end m s t i a b a row h refl e B.row_is, combined_end m p n i a b b line h (sym h) e B.line_is)
 
 -- ---- entries
 

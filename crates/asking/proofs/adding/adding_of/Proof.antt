@@ -50,7 +50,7 @@ mul-residues-into : tie.Need-overflow-mul-residues-into
 mul-residues-into c = search rules
 
 sub-residues-into : tie.Need-overflow-sub-residues-into
-sub-residues-into c = c.before.own_of_lem.ensures.1.1.1
+sub-residues-into c = c.before.own_of.ensures.1.1.1
 
 part-residues-into-start : tie.Need-slice-bounds-residues-into-start
 part-residues-into-start c = sub-residues-into c
@@ -118,7 +118,7 @@ returns-2 c =
           let tops = tops_asked nothing-asked ws o.before.before.tops_fit.ensures o.before.ask.ensures in
           let shape =
           then_asked tops 1 tt (is_equation (unknowns_of l) (equation_words (words_in ws)))
-          (λ yes. shaped.is-equation.ensures ∙ kinds ∙ ap (is_equation seen.unknowns) words
+          (λ yes. shaped.is_equation.ensures ∙ kinds ∙ ap (is_equation seen.unknowns) words
           ∙ ap (λ (n : ℕ). is_equation n (equation_words (words_in ws))) sees.unknowns)
           second.ask2.ensures in
           let divides =

@@ -14,7 +14,7 @@ claim-length-requires : tie.Need-claim-length-requires
 claim-length-requires c κs = search rules
 
 returns-2 : tie.Need-returns-2
-returns-2 c = rw (eq-eqb c.before.before.before.args.first.kind head_kind c.before.if1.false) c.claim-length.ensures
+returns-2 c = rw (eq-eqb c.before.before.before.args.first.kind head_kind c.before.if1.false) c.claim_length.ensures
 
 pub claim-words-spec : {M : Type 1} → statement M
 claim-words-spec = tie.close (tie.spec returns claim-length-requires returns-2)

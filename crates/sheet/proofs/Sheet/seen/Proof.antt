@@ -12,7 +12,7 @@ is-opened-requires c κs = search rules
 
 returns : tie.Need-returns
 returns c = (
-  sees-unopened c.before.before.args.sheet.now (sym c.before.is-opened.ensures ∙ not-true _ c.if1.true),
+  sees-unopened c.before.before.args.sheet.now (sym c.before.is_opened.ensures ∙ not-true _ c.if1.true),
   (omega arith, omega arith),
 )
 
@@ -33,7 +33,7 @@ wide-requires-2 c κs = search rules
 
 returns-2 : tie.Need-returns-2
 returns-2 c =
-    sees-read c.before.before.before.before.before.before.before.args.sheet.now (sym c.before.before.before.before.before.before.is-opened.ensures ∙ not-false _ c.before.before.before.before.before.if1.false) c.before.before.wide.ensures
+    sees-read c.before.before.before.before.before.before.before.args.sheet.now (sym c.before.before.before.before.before.before.is_opened.ensures ∙ not-false _ c.before.before.before.before.before.if1.false) c.before.before.wide.ensures
     c.wide2.ensures
 
 pub seen-spec : {M : Type 1} → statement M

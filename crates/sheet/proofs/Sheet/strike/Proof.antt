@@ -42,7 +42,7 @@ without-line-requires c κs =
     let is = asked.ensures (ledger_of s) seen.ensures.0 in
     let left = c.before.before.before.if1.false in (
       strike_opened s a.place seen.ensures.0 asked.result is left,
-      strike_within s a.place seen.ensures.0 asked.result is left c.struck-at.ensures,
+      strike_within s a.place seen.ensures.0 asked.result is left c.struck_at.ensures,
     )
 
 returns-2 : tie.Need-returns-2
@@ -53,7 +53,7 @@ returns-2 c =
     let asked = c.before.before.before.before.before.strike-refusal in
     let is = asked.ensures (ledger_of s) seen.ensures.0 in
     strike_accepted s a.place seen.ensures.0 asked.result is c.before.before.before.before.if1.false
-    c.before.struck-at.ensures c.without-line.ensures
+    c.before.struck_at.ensures c.without-line.ensures
 
 pub strike-spec : {M : Type 1} → statement M
 strike-spec =

@@ -80,7 +80,7 @@ returns-2 c =
     let first = c.before.before.before.before.before.before.before.before.before.claim-solves in
     let there = c.before.before.before.before.before.before.prepare.ensures in
     let size = c.before.before.before.packed-size in
-    let second = c.before.misses-none in (
+    let second = c.before.misses_none_lem in (
       mark-fails a.m a.n _ _ second.result
           (solved a.m a.n a.lines.now a.claim.now z.requires.0 z.requires.2 first.result first.ensures
           (not-false _ c.before.before.before.before.before.before.before.before.if1.false) _ (prepared_front a.m a.n a.lines.now _ there size.result size.ensures).rows
@@ -116,7 +116,7 @@ returns-3 c =
     let first = c.before.before.before.before.before.before.before.before.before.before.before.claim-solves in
     let there = c.before.before.before.before.before.before.before.before.prepare.ensures in
     let size = c.before.before.before.before.before.packed-size in
-    let second = c.before.before.before.misses-none in
+    let second = c.before.before.before.misses_none_lem in
     let long = c.before.long-at in
     let based = prepared_front a.m a.n a.lines.now _ there size.result size.ensures in
     let right = solved a.m a.n a.lines.now a.claim.now z.requires.0 z.requires.2 first.result first.ensures

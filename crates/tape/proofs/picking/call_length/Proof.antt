@@ -47,7 +47,7 @@ returns-3 : tie.Need-returns-3
 returns-3 c = search rules
 
 returns-4 : tie.Need-returns-4
-returns-4 c = (rw c.before.enum-told4.given.1 c.claim-length.ensures.0, c.claim-length.ensures.1)
+returns-4 c = (rw c.before.enum-told4.given.1 c.claim_length.ensures.0, c.claim_length.ensures.1)
 
 returns-5 : tie.Need-returns-5
 returns-5 c = search rules
