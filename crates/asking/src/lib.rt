@@ -1,5 +1,7 @@
 // The questions that the calls on a sheet ask, in the paper's order: the number of the first whose answer is no, or 0 where the call is
 // accepted. They see four numbers of a sheet, and not its record.
+#![tactic(auto)]
+
 pub mod adding;
 pub mod classes;
 pub mod entries;

@@ -1,4 +1,6 @@
 // The words of an answer block, written to lent memory.
+#![tactic(auto)]
+
 ghost use Rattle.std.specs.Prelude.{◌≡◌, ◌∷◌, ◌<◌, ◌≤◌, length};
 ghost use Rattle.slices.specs.Over.{over};
 ghost use Rattle.words.specs.Words.{words_of, entry_kind};

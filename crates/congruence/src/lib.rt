@@ -1,4 +1,6 @@
 // One congruence a·t = b mod m as a call: its question, and then the arithmetic of `residue`.
+#![tactic(auto)]
+
 ghost use Rattle.std.specs.Prelude.{◌≡◌};
 ghost use Rattle.congruence.specs.Congruence.{congruence_of};
 

@@ -1,5 +1,6 @@
 // Document 01's answer to a list of equations, its mark of a claim and document 02's reason beside the mark, as definitions and laws
 // alone: see specs/ and proofs/.
+#![tactic(auto)]
 
 // What a marked claim gets. A long one is right, with a step that the others make superfluous.
 #[derive(Clone, Copy)]

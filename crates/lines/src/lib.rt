@@ -1,5 +1,7 @@
 // Lines with a modulus q of their own as they lie in a sheet mod m: with both sides times m/q, specs/Stored. A plain line has q = m, and
 // nothing is multiplied or divided for it.
+#![tactic(auto)]
+
 ghost use Rattle.std.specs.Prelude.{◌≡◌, ◌&&◌, map, ℕ, ◌+◌, ◌*◌, ◌/◌, ◌≤◌, ◌<◌, T, eqb, length};
 ghost use Rattle.slices.specs.Over.{over};
 ghost use Rattle.questions.specs.Questions.{allowed_own};

@@ -1,4 +1,6 @@
 // The C face: every call that a C program can make, thin over the crates that do the work. Here are those without a sheet.
+#![tactic(auto)]
+
 mod posing;
 mod reasoning;
 mod replying;

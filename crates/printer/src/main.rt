@@ -2,6 +2,8 @@
 // it is made. A tape may print more than ten megabytes, and no buffer holds more than the lines of one call.
 //
 // A read or a write that fails ends the run and is said on standard error. The status is 0 even then: `main` has no other.
+#![tactic(auto)]
+
 ghost use Rattle.io.specs.Counts.{IsPrefixLen};
 
 use libc::{STDERR_FILENO, STDIN_FILENO, STDOUT_FILENO};

@@ -1,4 +1,6 @@
 // What the sheet, the safe and the C face have in common: how questions are asked one after the other, and the tests of a modulus.
+#![tactic(auto)]
+
 ghost use Rattle.std.specs.Prelude.{◌≡◌, [], ◌∷◌};
 ghost use Rattle.questions.specs.Questions.{asks, first_no, unless_refused, allowed_modulus, allowed_own};
 

@@ -1,5 +1,7 @@
 // The safe puzzle: locks in rows and columns that are turned together. The turns that open it are found by solving an
 // equation for each lock.
+#![tactic(auto)]
+
 mod lines;
 mod opening;
 mod posing;

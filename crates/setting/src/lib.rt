@@ -1,4 +1,6 @@
 // A sheet for a wanted answer: from a claim, the equations that just its vectors solve, as words that an add takes.
+#![tactic(auto)]
+
 mod making;
 mod posing;
 

@@ -1,6 +1,8 @@
 // A sheet of equations in its caller's memory: opened with a modulus and a number of unknowns, then filled and emptied one equation at a
 // time, answered, and marked by one claim, with the reason beside a failed mark, or by those of a class. Every call takes any numbers for
 // a sheet, any words and any buffer, and works where the sheet lies.
+#![tactic(auto)]
+
 pub mod adding;
 pub mod answering;
 pub mod classing;

@@ -1,5 +1,7 @@
 // Answers to lists of equations over the residues, as document 01 defines them, the marking of claims, the
 // reasons why they fail or are long, and the equations that are made for a claim.
+#![tactic(auto)]
+
 mod checking;
 pub mod explaining;
 mod finding;

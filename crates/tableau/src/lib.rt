@@ -1,4 +1,6 @@
 // The elimination of the crate `elimination`, as code over packed rows in lent slices.
+#![tactic(auto)]
+
 pub mod building;
 pub mod filling;
 mod insertion;
