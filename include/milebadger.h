@@ -71,11 +71,11 @@
 extern "C" {
 #endif
 
-/* This header's version: 10,000 times its first number, 100 times its second and its third; 40100 is 4.1.0. The header
+/* This header's version: 10,000 times its first number, 100 times its second and its third; 40000 is 4.0.0. The header
  * goes with its library. As long as the first number is the same, a sheet keeps its size, and the calls keep their
  * arguments and what their results mean; a program that loads the shared library can ask for that when it starts:
  * milebadger_version() / 10000 == MILEBADGER_VERSION / 10000. */
-#define MILEBADGER_VERSION 40100
+#define MILEBADGER_VERSION 40000
 
 /* The library's version.
  *

@@ -58,6 +58,7 @@ used_least m q false is two = two
 
 pub used_own : (m q : ℕ) (allowed : Bool) → T allowed → cond allowed q m ≡ q
 used_own m q true t = refl
+used_own m q false t = elim t [ ]
 
 pub behind_own : (ws : List ℕ) (k : ℕ) → k ≡ cond (has_own (words_in ws)) (first_length ws) 0
     → words_in (lent k ws) ≡ equation_words (words_in ws)

@@ -10,7 +10,7 @@ use lib.Dec.{T}
 use Rattle.residue.proofs.Congruent.{congruent_sym, congruent_mod}
 use Rattle.equations.specs.Vectors.{Vector, AllVectors, Below}
 use Rattle.equations.specs.Equation.{Equation, dot, solves, Shaped}
-use Rattle.equations.specs.Lines.{in_rows}
+use Rattle.equations.specs.Lines.{as_rows}
 use Rattle.equations.specs.Claim.{Claim, no_solution, from}
 use Rattle.equations.specs.Wanted.{Wants}
 use Rattle.equations.proofs.Vectors.{vector-length, vector-below, below-append}
@@ -37,10 +37,10 @@ module _ (m : ℕ) (c : List ℕ) where
   through-shaped n [] vs = tt
   through-shaped n (g ∷ gs) vs = (vector-length m n g vs.0, through-shaped n gs vs.1)
 
-  pub through-residues : (n : ℕ) → 0 < m → (gs : List (List ℕ)) → AllVectors m n gs → Below m (in_rows (lines_through m c gs))
+  pub through-residues : (n : ℕ) → 0 < m → (gs : List (List ℕ)) → AllVectors m n gs → Below m (as_rows (lines_through m c gs))
   through-residues n pos [] vs = tt
   through-residues n pos (g ∷ gs) vs =
-      below-append m (g ++ (dot g c % m ∷ [])) (in_rows (lines_through m c gs))
+      below-append m (g ++ (dot g c % m ∷ [])) (as_rows (lines_through m c gs))
       (below-append m g (dot g c % m ∷ []) (vector-below m n g vs.0) (mod-lt (dot g c) pos, tt))
       (through-residues n pos gs vs.1)
 

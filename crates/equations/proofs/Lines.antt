@@ -19,7 +19,7 @@ use native.Mathlib.Omega.{arith}
 use lib.ListN.{length, take, drop, length-append, length-drop, get_or-append}
 use lib.Seq.{length-take-le, take-append-le, drop-append-le, take-take, get_or-take, take-add, take_at, drop_at, get_or_at}
 use Rattle.equations.specs.Equation.{Equation, Shaped}
-use Rattle.equations.specs.Lines.{equation_at, equations_within, equations_of, in_row, in_rows}
+use Rattle.equations.specs.Lines.{equation_at, equations_within, equations_of, as_row, as_rows}
 
 pub equations-none : (n : ℕ) (s : List ℕ) → length s ≤ n → equations_of n s ≡ []
 unfolding equations_of
@@ -114,7 +114,7 @@ equations-take c n s h =
 
 -- ---- rows
 
-row-length : (n : ℕ) (e : Equation) → length e.coefficients ≡ n → length (in_row e) ≡ n + 1
+row-length : (n : ℕ) (e : Equation) → length e.coefficients ≡ n → length (as_row e) ≡ n + 1
 row-length n e h = length-append e.coefficients (e.right ∷ []) ∙ omega arith
 
 -- an equation in front of other numbers
@@ -124,19 +124,19 @@ row-front n e s h =
     ap₂ {C = Equation} (λ cs r. record { coefficients = cs; right = r }) (take_at e.coefficients (e.right ∷ s) n h)
     (get_or_at e.coefficients e.right s 0 n h)
 
-pub equation-row : (n : ℕ) (e : Equation) → length e.coefficients ≡ n → equation_at n (in_row e) ≡ e
+pub equation-row : (n : ℕ) (e : Equation) → length e.coefficients ≡ n → equation_at n (as_row e) ≡ e
 equation-row n e h = row-front n e [] h
 
-pub rows-length : (n : ℕ) (es : List Equation) → Shaped n es → length (in_rows es) ≡ length es * (n + 1)
+pub rows-length : (n : ℕ) (es : List Equation) → Shaped n es → length (as_rows es) ≡ length es * (n + 1)
 rows-length n [] h = omega arith
 rows-length n (e ∷ es) h =
-    omega (arith, length-append (in_row e) (in_rows es), row-length n e h.0, rows-length n es h.1)
+    omega (arith, length-append (as_row e) (as_rows es), row-length n e h.0, rows-length n es h.1)
 
-pub rows_back : (n : ℕ) (es : List Equation) → Shaped n es → equations_of n (in_rows es) ≡ es
+pub rows_back : (n : ℕ) (es : List Equation) → Shaped n es → equations_of n (as_rows es) ≡ es
 rows_back n [] h = equations-none n [] (omega arith)
 rows_back n (e ∷ es) h =
     let long = row-length n e h.0 in
-    equations_more n (in_rows (e ∷ es)) (omega (arith, length-append (in_row e) (in_rows es)))
+    equations_more n (as_rows (e ∷ es)) (omega (arith, length-append (as_row e) (as_rows es)))
     ∙ ap₂ {C = List Equation} ◌∷◌
-    (ap (equation_at n) (append_assoc e.coefficients (e.right ∷ []) (in_rows es)) ∙ row-front n e (in_rows es) h.0)
-    (ap (equations_of n) (drop_at (in_row e) (in_rows es) (n + 1) long) ∙ rows_back n es h.1)
+    (ap (equation_at n) (append_assoc e.coefficients (e.right ∷ []) (as_rows es)) ∙ row-front n e (as_rows es) h.0)
+    (ap (equations_of n) (drop_at (as_row e) (as_rows es) (n + 1) long) ∙ rows_back n es h.1)

@@ -16,10 +16,10 @@ unfoldable pub equations_of : ℕ → List ℕ → List Equation
 equations_of n s = equations_within (length s / suc n) n s
 
 -- the numbers of an equation, one behind the other: its coefficients, then its right side
-abbrev pub in_row : Equation → List ℕ
-in_row e = e.coefficients ++ (e.right ∷ [])
+abbrev pub as_row : Equation → List ℕ
+as_row e = e.coefficients ++ (e.right ∷ [])
 
 -- and those of several equations
-abbrev pub in_rows : List Equation → List ℕ
-in_rows [] = []
-in_rows (e ∷ es) = in_row e ++ in_rows es
+abbrev pub as_rows : List Equation → List ℕ
+as_rows [] = []
+as_rows (e ∷ es) = as_row e ++ as_rows es

@@ -3,7 +3,7 @@
 use Rattle.std.specs.Prelude.{◌≡◌, ◌↔◌, List, [], ◌∷◌, ℕ, ◌≤◌, length, T}
 use Rattle.equations.specs.Vectors.{Vector, Below}
 use Rattle.equations.specs.Equation.{Equation, solves, Shaped}
-use Rattle.equations.specs.Lines.{in_rows}
+use Rattle.equations.specs.Lines.{as_rows}
 use Rattle.equations.specs.Claim.{Claim, no_solution, describes}
 use Rattle.equations.specs.Promises.{constant}
 
@@ -12,7 +12,7 @@ pub record Wants (m n : ℕ) (claim : Claim) (es : List Equation) : Type 0 where
   pub few : length es ≤ n
   pub shaped : Shaped n es
   -- "each mod m": coefficients and right sides are residues
-  pub residues : Below m (in_rows es)
+  pub residues : Below m (as_rows es)
   -- "whose solutions are the vectors that the claim describes"
   pub exactly : (v : List ℕ) → Vector m n v → T (solves m es v) ↔ T (describes m claim v)
   -- "and 0 = 1 as the single line where none is claimed"

@@ -21,18 +21,23 @@ allowed_unknowns n = leb 1 n && leb n most_unknowns
 abbrev pub plain : ℕ → Bool
 plain number = eqb number 0
 
--- Of a claim: "Shape right? 1. Entries below m? 6."; "Turned away: right before 1, a kind 13 word with number 0 or above 15, or not right before a
--- word of kinds 1, 3, 4, 6, 7, 10, 11 or 12, 17."
+-- "Mark: opened? 4. Shape right? 1. Entries below m? 6."; "Turned away: right before 1, a kind 13 word with number 0 or above 15, or not right
+-- before a word of kinds 1, 3, 4, 6, 7, 10, 11 or 12, 17."
+abbrev pub mark_questions : Ledger → List ℕ → List Question
+mark_questions l ws =
+    asks 4 (is_opened l)
+    ∷ asks 17 (tops_fit (words_in ws))
+    ∷ asks 1 (is_claim (unknowns_of l) (words_in ws))
+    ∷ asks 6 (all_below (modulus_of l) (entries_of (words_in ws)))
+    ∷ []
+
+-- those of them that are about the claim alone, for n unknowns mod m
 abbrev pub claim_questions : ℕ → ℕ → List ℕ → List Question
 claim_questions m n ws =
     asks 17 (tops_fit (words_in ws))
     ∷ asks 1 (is_claim n (words_in ws))
     ∷ asks 6 (all_below m (entries_of (words_in ws)))
     ∷ []
-
--- "Mark: opened? 4.", and then those of a claim
-abbrev pub mark_questions : Ledger → List ℕ → List Question
-mark_questions l ws = asks 4 (is_opened l) ∷ claim_questions (modulus_of l) (unknowns_of l) ws
 
 abbrev pub questions : Ledger → Call → List Question
 -- "Open: two words of kinds 1, 2? 1. m .. ? 2. n 1..16? 3."; 17 "right before 1"

@@ -27,12 +27,12 @@ use Rattle.questions.specs.Questions.{allowed_own}
 use Rattle.equations.specs.Lists.{every, without}
 use Rattle.equations.specs.Vectors.{Below}
 use Rattle.equations.specs.Equation.{Equation, Shaped}
-use Rattle.equations.specs.Lines.{equations_of, in_row}
+use Rattle.equations.specs.Lines.{equations_of}
 use Rattle.equations.specs.Line.{Line, Moduli, ShapedLines, scaled_one, scaled}
 use Rattle.equations.proofs.Truth.{true_of}
 use Rattle.equations.proofs.Lines.{equations_more}
 use Rattle.equations.proofs.Scaled.{times-whole, times_positive}
-use Rattle.lines.specs.Stored.{multiples, fits, all_fit, stored_one, stored}
+use Rattle.lines.specs.Stored.{in_row, multiples, fits, all_fit, stored_one, stored}
 
 pub own_divides : (m q : ℕ) → T (allowed_own m q) → Divides q m
 own_divides m q t = divides_of_remainder (eqb→eq (m % q) 0 (and_yes (leb 2 q) (eqb (m % q) 0) t).1)

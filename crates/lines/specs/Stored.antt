@@ -1,11 +1,14 @@
 -- How lines lie in a sheet: a modulus q for each, and the equation with both sides times m/q, which is the one that multipliers "apply to".
 -- So what lies there is answered as it stands, and a line is multiplied once, when it is added. Definitions only.
-use Rattle.std.specs.Prelude.{Bool, true, ◌&&◌, List, [], ◌∷◌, map, ℕ, ◌/◌, ◌%◌, eqb}
+use Rattle.std.specs.Prelude.{Bool, true, ◌&&◌, List, [], ◌∷◌, ◌++◌, map, ℕ, ◌/◌, ◌%◌, eqb}
 use Rattle.questions.specs.Questions.{allowed_own}
 use Rattle.equations.specs.Lists.{every}
 use Rattle.equations.specs.Equation.{Equation}
-use Rattle.equations.specs.Lines.{in_row}
 use Rattle.equations.specs.Line.{Line}
+
+-- the numbers of an equation, one behind the other: its coefficients, then its right side
+abbrev pub in_row : Equation → List ℕ
+in_row e = e.coefficients ++ (e.right ∷ [])
 
 -- whether all of them are multiples of k
 abbrev pub multiples : ℕ → List ℕ → Bool

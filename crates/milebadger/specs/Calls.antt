@@ -37,9 +37,9 @@ use Rattle.tape.specs.Output.{most_bytes, lines}
 abbrev pub minus : ℕ → ℤ
 minus k = neg_ℤ (pos k)
 
--- 10,000 times the major, 100 times the minor and the patch number: 4.1.0
+-- 10,000 times the major, 100 times the minor and the patch number: 4.0.0
 abbrev pub version : ℕ
-version = 40100
+version = 40000
 
 -- What the calls on a sheet give back, as a result: "the equations then held", how many memory words the block has, 1 for a pass, 2 for a
 -- long claim and 0 for a fail, or how many claims a class has; or minus the number of the refusal.

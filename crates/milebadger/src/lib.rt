@@ -26,8 +26,8 @@ const FEW: u32 = 4;
 
 const FEW_NUMBERS: usize = 20;
 
-// The header's: 10,000 · 4 + 100 · 1 + 0.
-const VERSION: u32 = 40100;
+// The header's: 10,000 · 4 + 100 · 0 + 0.
+const VERSION: u32 = 40000;
 
 #[unsafe(no_mangle)]
 pub extern "C" fn milebadger_version() -> u32

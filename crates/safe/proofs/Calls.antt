@@ -3,17 +3,16 @@
 --   refused, let_in              a question about the arguments has the answer no; none has
 --   words_few                    the call writes at most 32 memory words
 use mathlib.Core.Bool.{Bool, true, false, cond}
-use mathlib.Core.List.{List, []}
+use mathlib.Core.List.{List}
 use mathlib.Core.Option.{Option, none, some}
 use mathlib.Core.Path.{◌≡◌, refl, subst}
 use Prim.Native.Nat.{ℕ, zero, suc, ◌*◌, ◌≤◌, ◌<◌}
 use native.Mathlib.Omega.{arith}
-use borrow.Author.Tests.{ne_eqb, le-leb}
+use borrow.Author.Tests.{eq-eqb, ne_eqb, le-leb, lt-leb}
 use lib.ListN.{length}
 use Rattle.slices.specs.Over.{over}
 use Rattle.questions.specs.Questions.{first_no, unless_refused}
-use Rattle.questions.specs.Reply.{refuses, fits, result_of, Gives}
-use Rattle.questions.proofs.Reply.{gives-short, gives-written, gives_refused, gives_let_in}
+use Rattle.questions.specs.Reply.{refuses, fits, result_of, memory_after}
 use Rattle.equations.proofs.Vectors.{vector-length}
 use Rattle.words.specs.Words.{entry_kind, words_in, numbers_of, words_of}
 use Rattle.words.proofs.Packed.{written_two}
@@ -21,37 +20,40 @@ use Rattle.safe.specs.declared.Turned.{Turned}
 use Rattle.safe.specs.declared.Turned.TheVariants.{Wrote, NoTurns, Refused}
 use Rattle.safe.specs.Turns.{turns_of}
 use Rattle.safe.specs.Calls.{most_locks, argument_questions, found, turns_reply, turned_of}
+use Rattle.safe.specs.Model.Handed.{Gives}
 use Rattle.safe.proofs.Promises.{wanted}
 use Rattle.safe.proofs.Questions.{accepted}
 
 -- ---- case by case
 
 module _ {turns : Option (List ℕ)} (old : List ℕ) where
-  pub no_turns : turns ≡ none → Gives Refused (found turns) old NoTurns old
-  no_turns are = rw are (gives-written Refused old 0 NoTurns [] (omega arith))
+  pub no_turns : turns ≡ none → Gives (found turns) old NoTurns old
+  unfolding result_of memory_after
+  no_turns are =
+      let fit = le-leb 0 (length old) (omega arith) in
+      (rw (are, fit), rw (are, fit))
 
   module _ (vs : List ℕ) (are : turns ≡ some vs) where
-    abbrev words : List ℕ
-    words = words_of entry_kind vs
-
-    pub too_short : length old < length (words_of entry_kind vs) → Gives Refused (found turns) old (Refused 8) old
-    too_short short = rw are (gives-short Refused old (length words) (Wrote (length words)) words short)
+    pub too_short : length old < length (words_of entry_kind vs) → Gives (found turns) old (Refused 8) old
+    unfolding result_of memory_after
+    too_short short = let no = lt-leb (length (words_of entry_kind vs)) (length old) short in (rw (are, no), rw (are, no))
 
     pub wrote : length (words_of entry_kind vs) ≤ length old
-        → Gives Refused (found turns) old (Wrote (length (words_of entry_kind vs))) (over (words_of entry_kind vs) old)
-    wrote long = rw are (gives-written Refused old (length words) (Wrote (length words)) words long)
+        → Gives (found turns) old (Wrote (length (words_of entry_kind vs))) (over (words_of entry_kind vs) old)
+    unfolding result_of memory_after
+    wrote long = let yes = le-leb (length (words_of entry_kind vs)) (length old) long in (rw (are, yes), rw (are, yes))
 
 module _ (m rows columns : ℕ) (values old : List ℕ) (number : ℕ)
     (is : number ≡ first_no (argument_questions m rows columns values)) where
-  pub refused : (number ≡ 0 → ⊥) → Gives Refused (turns_reply m rows columns values) old (Refused number) old
-  unfolding turns_reply
-  refused = gives_refused Refused old (argument_questions m rows columns values) is (found (turns_of m rows columns (numbers_of (words_in values))))
+  pub refused : (number ≡ 0 → ⊥) → Gives (turns_reply m rows columns values) old (Refused number) old
+  unfolding turns_reply result_of memory_after
+  refused more = (rw (← is, ne_eqb number 0 more), rw (← is, ne_eqb number 0 more))
 
   pub let_in : {r : Turned} {new : List ℕ} → number ≡ 0
-      → Gives Refused (found (turns_of m rows columns (numbers_of (words_in values)))) old r new
-      → Gives Refused (turns_reply m rows columns values) old r new
+      → Gives (found (turns_of m rows columns (numbers_of (words_in values)))) old r new
+      → Gives (turns_reply m rows columns values) old r new
   unfolding turns_reply
-  let_in = gives_let_in Refused old (argument_questions m rows columns values) is (found (turns_of m rows columns (numbers_of (words_in values))))
+  let_in h given = (rw (← is, eq-eqb number 0 h) given.0, rw (← is, eq-eqb number 0 h) given.1)
 
 -- ---- the turns as words
 

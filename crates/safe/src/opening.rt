@@ -1,10 +1,8 @@
 // The turns that open a safe, found by solving its equations, and written.
 ghost use Rattle.std.specs.Prelude.{◌≡◌, ℕ, ◌*◌, length};
-ghost use Rattle.questions.specs.Reply.{Gives};
-ghost use Rattle.safe.specs.declared.Turned.TheVariants.{Refused};
 ghost use Rattle.safe.specs.Turns.{turns_of};
 ghost use Rattle.safe.specs.Calls.{found};
-ghost use Rattle.safe.specs.Model.Handed.{Lockable, Found};
+ghost use Rattle.safe.specs.Model.Handed.{Lockable, Found, Gives};
 
 use crate::lines::lines_into;
 use crate::{LOCKS, Turned};
@@ -16,7 +14,7 @@ use words::writing::{write, written_length};
 pub(crate) fn turns_into(m: u32, columns: usize, values: &[u32], out: &mut [u32]) -> Turned
     requires { (rows : ℕ) × Lockable m rows columns values.now }
     ensures { (rows : ℕ) → rows * columns ≡ length values.now
-        → Gives Refused (found (turns_of m rows columns values.now)) out.old result out.new }
+        → Gives (found (turns_of m rows columns values.now)) out.old result out.new }
 {
     let answer = first_turns(m, columns, values);
     if answer.head == 0 {

@@ -19,7 +19,7 @@ use Rattle.questions.proofs.Questions.{whole_own}
 use Rattle.equations.specs.declared.Mark.TheVariants.{Pass, Long}
 use Rattle.equations.specs.Vectors.{Below}
 use Rattle.equations.specs.Equation.{Equation, Shaped}
-use Rattle.equations.specs.Lines.{in_row, in_rows}
+use Rattle.equations.specs.Lines.{as_row, as_rows}
 use Rattle.equations.specs.Claim.{is_right}
 use Rattle.equations.specs.Line.{Line, lines_mod}
 use Rattle.equations.proofs.Truth.{true_of}
@@ -48,7 +48,7 @@ use Rattle.setting.specs.Promises.{add_calls, AllAccepted, PartsIn}
 
 -- ---- where an equation ends
 
-module _ (e : Equation) (fits : Below numbers_of_aWord (in_row e)) (rest : List ℕ) where
+module _ (e : Equation) (fits : Below numbers_of_aWord (as_row e)) (rest : List ℕ) where
   parts : Below numbers_of_aWord e.coefficients × Below numbers_of_aWord (e.right ∷ [])
   parts = below_parts numbers_of_aWord e.coefficients (e.right ∷ []) fits
 
@@ -74,10 +74,10 @@ module _ (e : Equation) (fits : Below numbers_of_aWord (in_row e)) (rest : List 
       drop_at (equation_memory e) rest (front_length (n + 1) (equation_memory e ++ rest))
       (sym (ap (λ (k : ℕ). front_length (k + 1) (equation_memory e ++ rest)) (sym shaped) ∙ long))
 
-pub memory_parts : (n : ℕ) (es : List Equation) → Shaped n es → Below numbers_of_aWord (in_rows es) → (rest : List ℕ) → PartsIn n rest es
+pub memory_parts : (n : ℕ) (es : List Equation) → Shaped n es → Below numbers_of_aWord (as_rows es) → (rest : List ℕ) → PartsIn n rest es
 memory_parts n [] shaped fits rest = tt
 memory_parts n (e ∷ es) shaped fits rest =
-    let both = below_parts numbers_of_aWord (in_row e) (in_rows es) fits in
+    let both = below_parts numbers_of_aWord (as_row e) (as_rows es) fits in
     let assoc = append_assoc (equation_memory e) (sheet_memory es) rest in (
       ap (front (n + 1)) assoc ∙ memory-front e both.0 (sheet_memory es ++ rest) n shaped.0,
       ap (behind (n + 1)) assoc ∙ memory-behind e both.0 (sheet_memory es ++ rest) n shaped.0,
@@ -90,7 +90,7 @@ memory_parts n (e ∷ es) shaped fits rest =
 abbrev words_for : Equation → List Word
 words_for e = map (numbered coefficient_kind) e.coefficients ++ (numbered right_kind e.right ∷ [])
 
-reads : (e : Equation) → Below numbers_of_aWord (in_row e) → words_in (equation_memory e) ≡ words_for e
+reads : (e : Equation) → Below numbers_of_aWord (as_row e) → words_in (equation_memory e) ≡ words_for e
 reads e fits =
     let both = below_parts numbers_of_aWord e.coefficients (e.right ∷ []) fits in
     words_back_then coefficient_kind refl e.coefficients (words_of right_kind (e.right ∷ [])) both.0
@@ -107,7 +107,7 @@ kinds : (cs : List ℕ) (r : ℕ)
 kinds [] r = refl
 kinds (c ∷ cs) r = ap (λ (ks : List ℕ). coefficient_kind ∷ ks) (kinds cs r)
 
-residues : (m : ℕ) (e : Equation) → Below m (in_row e) → residues_of m (words_for e) ≡ in_row e
+residues : (m : ℕ) (e : Equation) → Below m (as_row e) → residues_of m (words_for e) ≡ as_row e
 residues m e below =
     let both = below_parts m e.coefficients (e.right ∷ []) below in
     map-append _ (map (numbered coefficient_kind) e.coefficients) (numbered right_kind e.right ∷ [])
@@ -115,9 +115,9 @@ residues m e below =
     (residues-plain m right_kind refl (e.right ∷ []) both.1)
 
 module _ (m n : ℕ) (two : 2 ≤ m) (largest : m ≤ largest_modulus) (e : Equation) (shaped : length e.coefficients ≡ n)
-    (below : Below m (in_row e)) where
-  fits : Below numbers_of_aWord (in_row e)
-  fits = below_mono m numbers_of_aWord (in_row e) (omega arith) below
+    (below : Below m (as_row e)) where
+  fits : Below numbers_of_aWord (as_row e)
+  fits = below_mono m numbers_of_aWord (as_row e) (omega arith) below
 
   pub memory-line : line_from m n (words_in (equation_memory e)) ≡ record { modulus = m; equation = e }
   memory-line =
@@ -149,13 +149,13 @@ module _ (m n : ℕ) (two : 2 ≤ m) (largest : m ≤ largest_modulus) (e : Equa
 
 -- ---- all of them
 
-pub all_added : (m n : ℕ) → 2 ≤ m → m ≤ largest_modulus → (es : List Equation) → Shaped n es → Below m (in_rows es) → (ls : List Line)
+pub all_added : (m n : ℕ) → 2 ≤ m → m ≤ largest_modulus → (es : List Equation) → Shaped n es → Below m (as_rows es) → (ls : List Line)
     → length ls + length es ≤ most_equations
     → AllAccepted (opened m n ls) (add_calls es) × (ledger_from (opened m n ls) (add_calls es) ≡ opened m n (ls ++ lines_mod m es))
 unfolding ledger_from
 all_added m n two largest [] shaped below ls few = (tt, ap (opened m n) (sym (append-nil ls)))
 all_added m n two largest (e ∷ es) shaped below ls few =
-    let both = below_parts m (in_row e) (in_rows es) below in
+    let both = below_parts m (as_row e) (as_rows es) below in
     let line : Line = record { modulus = m; equation = e } in
     let held = entered m n two largest e shaped.0 both.0 ls (omega arith) in
     let rest = all_added m n two largest es shaped.1 both.1 (ls ++ (line ∷ [])) (omega (arith, length-append ls (line ∷ []))) in (

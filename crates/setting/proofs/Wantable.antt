@@ -13,7 +13,7 @@ use lib.ListN.{length, take}
 use Rattle.slices.specs.Over.{over}
 use Rattle.slices.proofs.Over.{over-front}
 use Rattle.equations.specs.Equation.{Equation}
-use Rattle.equations.specs.Lines.{equations_of, in_rows}
+use Rattle.equations.specs.Lines.{equations_of, as_rows}
 use Rattle.equations.specs.Wanted.{Wants}
 use Rattle.equations.proofs.Lines.{rows-length, rows_back}
 use Rattle.system.specs.Claims.{claim_of}
@@ -48,9 +48,9 @@ module _ (m n : ℕ) (claim : List ℕ) (w : Wantable m n claim) where
           mul-le-mul {n₁ = r} {m₁ = n + 1} {n₂ = n} {m₂ = n + 1} (omega (arith, count, wantable_wants.few)) (omega arith),
         )
 
-    pub made-read : (old : List ℕ) {last : List ℕ} → last ≡ over (in_rows (wanted_of m n (claim_of n claim))) old
+    pub made-read : (old : List ℕ) {last : List ℕ} → last ≡ over (as_rows (wanted_of m n (claim_of n claim))) old
         → equations_of n (take (r * (n + 1)) last) ≡ wanted_of m n (claim_of n claim)
     made-read old written =
-        let long : length (in_rows es) ≡ r * (n + 1) =
+        let long : length (as_rows es) ≡ r * (n + 1) =
         rows-length n es wantable_wants.shaped ∙ ap (λ (k : ℕ). k * (n + 1)) (sym count) in
-        ap (equations_of n) (over-front (r * (n + 1)) (in_rows es) old written long) ∙ rows_back n es wantable_wants.shaped
+        ap (equations_of n) (over-front (r * (n + 1)) (as_rows es) old written long) ∙ rows_back n es wantable_wants.shaped

@@ -15,8 +15,9 @@ use lib.ListN.{length, take, drop, set, length-set, length-append, length-drop, 
 use lib.Seq.{drop-drop, take-append-le, drop-append-le}
 use Rattle.slices.specs.Over.{over}
 use Rattle.slices.proofs.Parts.{lent, put_back, lent_is, lent_length}
-use Rattle.equations.specs.Lines.{equation_at, in_row}
+use Rattle.equations.specs.Lines.{equation_at}
 use Rattle.equations.specs.Line.{Line, scaled_one}
+use Rattle.lines.specs.Stored.{in_row}
 use Rattle.ledger.specs.Ledger.{is_opened, most_equations}
 use Rattle.ledger.specs.History.{gains, loses}
 use Rattle.sheet.specs.Record.{Sheet, modulus_in, unknowns_in, held_in, moduli_in, cells_in, sheet_of, room, size, cells_of, own_in, numbers_in, ledger_of, written_at, record_by}

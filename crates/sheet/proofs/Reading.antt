@@ -25,12 +25,12 @@ use Rattle.questions.proofs.Questions.{within_range, own_least}
 use Rattle.equations.specs.Vectors.{Below}
 use Rattle.equations.specs.Equation.{Equation}
 use Rattle.equations.specs.Multipliers.{all_below}
-use Rattle.equations.specs.Lines.{equations_of, in_row}
+use Rattle.equations.specs.Lines.{equations_of}
 use Rattle.equations.specs.Line.{scaled}
 use Rattle.equations.proofs.Truth.{true_of, of_true, true_or_false}
 use Rattle.equations.proofs.Vectors.{all-below, below_at, below-take, below-drop}
 use Rattle.equations.proofs.Lines.{equations-none, equations_more, equations-shaped, equations-count}
-use Rattle.lines.specs.Stored.{fits, all_fit, multiples, stored}
+use Rattle.lines.specs.Stored.{fits, all_fit, multiples, in_row, stored}
 use Rattle.lines.proofs.Stored.{scaled-stored, stored-count, stored-moduli, stored-shaped, stored-small, stored-below}
 use Rattle.system.specs.Posed.{Posed}
 use Rattle.ledger.specs.Ledger.{Ledger, unopened, opened, is_opened, modulus_of, unknowns_of, lines_in, most_equations, most_unknowns}

@@ -17,12 +17,12 @@ use Rattle.questions.proofs.Questions.{within_range}
 use Rattle.equations.specs.Lists.{without}
 use Rattle.equations.specs.Vectors.{Below}
 use Rattle.equations.specs.Equation.{Equation}
-use Rattle.equations.specs.Lines.{equations_of, in_row}
+use Rattle.equations.specs.Lines.{equations_of}
 use Rattle.equations.specs.Line.{Line, scaled_one}
 use Rattle.equations.proofs.Vectors.{below-append, below-take, below-drop}
 use Rattle.equations.proofs.Lines.{equations_snoc, equations-take, equation-row}
 use Rattle.equations.proofs.Scaled.{scaled_small, scaled-below}
-use Rattle.lines.specs.Stored.{all_fit, stored}
+use Rattle.lines.specs.Stored.{in_row, all_fit, stored}
 use Rattle.lines.proofs.Stored.{own_divides, stored-scaled, scaled_fits, stored_snoc, fit_snoc, stored-without, fit-without}
 use Rattle.ledger.specs.Ledger.{Ledger, opened, most_equations, most_unknowns}
 use Rattle.ledger.specs.Questions.{allowed_unknowns}

@@ -4,10 +4,10 @@ use Rattle.std.specs.Prelude.{Bool, cond, ◌&&◌, List, [], ◌∷◌, ◌++�
 use Rattle.slices.specs.Over.{over}
 use Rattle.questions.specs.Questions.{allowed_modulus}
 use Rattle.equations.specs.Equation.{Equation}
-use Rattle.equations.specs.Lines.{equations_of, in_row}
+use Rattle.equations.specs.Lines.{equations_of}
 use Rattle.equations.specs.Multipliers.{all_below}
 use Rattle.equations.specs.Line.{scaled_one}
-use Rattle.lines.specs.Stored.{all_fit, stored}
+use Rattle.lines.specs.Stored.{in_row, all_fit, stored}
 use Rattle.ledger.specs.Ledger.{Ledger, unopened, opened, most_equations}
 use Rattle.ledger.specs.Questions.{allowed_unknowns}
 use Rattle.ledger.specs.History.{Effect, begins, gains, loses}

@@ -21,7 +21,7 @@ use Rattle.slices.proofs.Poured.{Poured, poured_room}
 use Rattle.equations.specs.Vectors.{Below}
 use Rattle.equations.specs.Equation.{Equation}
 use Rattle.equations.specs.Answer.{steps_of}
-use Rattle.equations.specs.Lines.{equations_of, in_row, in_rows}
+use Rattle.equations.specs.Lines.{equations_of, as_row, as_rows}
 use Rattle.equations.specs.Promises.{constant}
 use Rattle.equations.proofs.Lines.{rows-length, rows_back}
 use Rattle.equations.proofs.Listed.{flat_below, steps_vectors, steps_few}
@@ -41,58 +41,58 @@ use Rattle.system.proofs.Marks.{claim_of_none, claim_of_some}
 
 module _ (m n : ℕ) (c : List ℕ) where
   abbrev pub rows_through : List ℕ → List ℕ
-  rows_through s = in_rows (lines_through m c (vectors_of n s))
+  rows_through s = as_rows (lines_through m c (vectors_of n s))
 
-  pub through-length : (s : List ℕ) → Below m s → length (in_rows (lines_through m c (vectors_of n s))) ≡ length s / n * (n + 1)
+  pub through-length : (s : List ℕ) → Below m s → length (as_rows (lines_through m c (vectors_of n s))) ≡ length s / n * (n + 1)
   through-length s below =
       rows-length n (lines_through m c (vectors_of n s)) (through-shaped m c n (vectors_of n s) (vectors_listed m n s below))
       ∙ ap (λ (k : ℕ). k * (n + 1)) (length-map (vectors_of n s) (through m c) ∙ vectors-count n s)
 
-  pub through-none : (rest : List ℕ) → length rest < n → in_rows (lines_through m c (vectors_of n rest)) ≡ []
-  through-none rest h = ap (λ (gs : List (List ℕ)). in_rows (lines_through m c gs)) (vectors-none n rest h)
+  pub through-none : (rest : List ℕ) → length rest < n → as_rows (lines_through m c (vectors_of n rest)) ≡ []
+  through-none rest h = ap (λ (gs : List (List ℕ)). as_rows (lines_through m c gs)) (vectors-none n rest h)
 
   module _ (rest : List ℕ) (some : 0 < n) (h : n ≤ length rest) where
-    pub through-next : in_rows (lines_through m c (vectors_of n rest))
-        ≡ in_row (through m c (take n rest)) ++ in_rows (lines_through m c (vectors_of n (lent n rest)))
+    pub through-next : as_rows (lines_through m c (vectors_of n rest))
+        ≡ as_row (through m c (take n rest)) ++ as_rows (lines_through m c (vectors_of n (lent n rest)))
     through-next =
-        ap (λ (gs : List (List ℕ)). in_rows (lines_through m c gs)) (vectors-cons n rest some h)
-        ∙ ap (λ (s : List ℕ). in_row (through m c (take n rest)) ++ in_rows (lines_through m c (vectors_of n s))) (sym (lent_is n rest))
+        ap (λ (gs : List (List ℕ)). as_rows (lines_through m c gs)) (vectors-cons n rest some h)
+        ∙ ap (λ (s : List ℕ). as_row (through m c (take n rest)) ++ as_rows (lines_through m c (vectors_of n s))) (sym (lent_is n rest))
 
-    pub through-row : length (in_row (through m c (take n rest))) ≡ n + 1
+    pub through-row : length (as_row (through m c (take n rest))) ≡ n + 1
     through-row = length-append (take n rest) _ ∙ omega (arith, length-take-le n rest h)
 
     pub through-room : (all old : List ℕ) (at : ℕ) (out : List ℕ) → Poured (rows_through) all old rest at out
-        → length (in_rows (lines_through m c (vectors_of n all))) ≤ length old → at + (n + 1) ≤ length old
+        → length (as_rows (lines_through m c (vectors_of n all))) ≤ length old → at + (n + 1) ≤ length old
     through-room all old at out p fits =
         omega (
           arith,
-          poured_room rows_through all old rest at out p fits (in_row (through m c (take n rest))) (lent n rest) through-next,
+          poured_room rows_through all old rest at out p fits (as_row (through m c (take n rest))) (lent n rest) through-next,
           through-row,
         )
 
 -- ---- the system of steps
 
 module _ (m n : ℕ) (steps : List ℕ) (below : Below m steps) (zero old : List ℕ) {last : List ℕ} (zeros : zero ≡ replicate n 0)
-    (written : last ≡ over (in_rows (lines_through m zero (vectors_of n steps))) old) where
+    (written : last ≡ over (as_rows (lines_through m zero (vectors_of n steps))) old) where
   abbrev lines : List Equation
   lines = lines_through m (replicate n 0) (vectors_of n steps)
 
-  size : length (in_rows lines) ≡ length steps / n * (n + 1)
+  size : length (as_rows lines) ≡ length steps / n * (n + 1)
   size = through-length m n (replicate n 0) steps below
 
-  same : last ≡ over (in_rows lines) old
-  same = written ∙ ap (λ (z : List ℕ). over (in_rows (lines_through m z (vectors_of n steps))) old) zeros
+  same : last ≡ over (as_rows lines) old
+  same = written ∙ ap (λ (z : List ℕ). over (as_rows (lines_through m z (vectors_of n steps))) old) zeros
 
   pub level-read : steps_of m n (equations_of n (take (length steps / n * (n + 1)) last)) ≡ annihilators m n (vectors_of n steps)
   level-read =
-      ap (λ (s : List ℕ). steps_of m n (equations_of n s)) (over-front (length steps / n * (n + 1)) (in_rows lines) old same size)
+      ap (λ (s : List ℕ). steps_of m n (equations_of n s)) (over-front (length steps / n * (n + 1)) (as_rows lines) old same size)
       ∙ ap (steps_of m n)
       (rows_back n lines (through-shaped m (replicate n 0) n (vectors_of n steps) (vectors_listed m n steps below)))
 
   pub level-posed : 1 < m → 0 < n → n ≤ 16 → length steps ≤ 16 * n → Posed m n (take (length steps / n * (n + 1)) last)
   level-posed modulus some few short =
       subst (λ (s : List ℕ). Posed m n (take (length steps / n * (n + 1)) s)) (sym same)
-      (relations-posed m (length steps / n) n (in_rows lines) (drop (length (in_rows lines)) old) size modulus (count-few n steps short)
+      (relations-posed m (length steps / n) n (as_rows lines) (drop (length (as_rows lines)) old) size modulus (count-few n steps short)
       some few
       (through-residues m (replicate n 0) n (omega arith) (vectors_of n steps) (vectors_listed m n steps below)))
 
@@ -108,12 +108,12 @@ module _ (m n : ℕ) (ss : List (List ℕ)) (r : ℕ) {old new : List ℕ} (some
       (flat_below m n (annihilators m n ss) (steps_vectors m n (lines_through m (replicate n 0) ss)))
 
   module _ (start : List ℕ) where
-    pub around_room : length (in_rows (lines_through m start (vectors_of n (take (r * n) new)))) ≤ n * (n + 1)
+    pub around_room : length (as_rows (lines_through m start (vectors_of n (take (r * n) new)))) ≤ n * (n + 1)
     around_room =
         let few : length (annihilators m n ss) ≤ n = steps_few m n (lines_through m (replicate n 0) ss) in
         omega (
           arith,
-          ap (λ (gs : List (List ℕ)). length (in_rows (lines_through m start gs))) listed_are,
+          ap (λ (gs : List (List ℕ)). length (as_rows (lines_through m start gs))) listed_are,
           rows-length n (lines_through m start (annihilators m n ss))
               (through-shaped m start n (annihilators m n ss) (steps_vectors m n (lines_through m (replicate n 0) ss))),
           ap (λ (k : ℕ). k * (n + 1)) (length-map (annihilators m n ss) (through m start)),
@@ -121,16 +121,16 @@ module _ (m n : ℕ) (ss : List (List ℕ)) (r : ℕ) {old new : List ℕ} (some
         )
 
     pub around_written : (lines : List ℕ) {made : List ℕ}
-        → made ≡ over (in_rows (lines_through m start (vectors_of n (take (r * n) new)))) lines
-        → made ≡ over (in_rows (lines_through m start (annihilators m n ss))) lines
+        → made ≡ over (as_rows (lines_through m start (vectors_of n (take (r * n) new)))) lines
+        → made ≡ over (as_rows (lines_through m start (annihilators m n ss))) lines
     around_written lines is =
-        is ∙ ap (λ (gs : List (List ℕ)). over (in_rows (lines_through m start gs)) lines) listed_are
+        is ∙ ap (λ (gs : List (List ℕ)). over (as_rows (lines_through m start gs)) lines) listed_are
 
 -- ---- what is written
 
 -- zeros in front, and a 1 behind them
 pub contradiction_written : (n : ℕ) (old : List ℕ) {front : List ℕ} → n + 1 ≤ length old → front ≡ replicate (length (take n old)) 0
-    → set (front ++ drop n old) n 1 ≡ over (in_row (constant n 1)) old
+    → set (front ++ drop n old) n 1 ≡ over (as_row (constant n 1)) old
 contradiction_written n old {front} room is =
     let zeros : front ≡ replicate n 0 = is ∙ ap (λ (k : ℕ). replicate k 0) (length-take-le n old (omega arith)) in
     let long : length (replicate {A = ℕ} n 0) ≡ n = length-replicate n 0 in
@@ -138,20 +138,20 @@ contradiction_written n old {front} room is =
     ∙ over-one (replicate n 0) old 1 (omega arith)
 
 module _ (m n : ℕ) (claim old : List ℕ) {new : List ℕ} where
-  pub for_none : length claim ≡ 0 → new ≡ over (in_row (constant n 1)) old
-      → (1 ≡ length (wanted_of m n (claim_of n claim))) × (new ≡ over (in_rows (wanted_of m n (claim_of n claim))) old)
+  pub for_none : length claim ≡ 0 → new ≡ over (as_row (constant n 1)) old
+      → (1 ≡ length (wanted_of m n (claim_of n claim))) × (new ≡ over (as_rows (wanted_of m n (claim_of n claim))) old)
   for_none none is =
       let made : wanted_of m n (claim_of n claim) ≡ constant n 1 ∷ [] = ap (wanted_of m n) (claim_of_none n claim none) ∙ wanted-none m n in (
         sym (ap length made),
-        is ∙ ap (λ (s : List ℕ). over s old) (sym (append-nil (in_row (constant n 1))) ∙ sym (ap in_rows made)),
+        is ∙ ap (λ (s : List ℕ). over s old) (sym (append-nil (as_row (constant n 1))) ∙ sym (ap as_rows made)),
       )
 
   pub for_some : (length claim ≡ 0 → ⊥) → (r : ℕ) → r ≡ length (annihilators m n (vectors_of n (lent n claim)))
-      → new ≡ over (in_rows (lines_through m (take n claim) (annihilators m n (vectors_of n (lent n claim))))) old
-      → (r ≡ length (wanted_of m n (claim_of n claim))) × (new ≡ over (in_rows (wanted_of m n (claim_of n claim))) old)
+      → new ≡ over (as_rows (lines_through m (take n claim) (annihilators m n (vectors_of n (lent n claim))))) old
+      → (r ≡ length (wanted_of m n (claim_of n claim))) × (new ≡ over (as_rows (wanted_of m n (claim_of n claim))) old)
   for_some some r count is =
       let made : wanted_of m n (claim_of n claim) ≡ lines_through m (take n claim) (annihilators m n (vectors_of n (lent n claim))) =
       ap (wanted_of m n) (sym (claim_of_some n claim some)) ∙ wanted-from m n _ _ in (
         count ∙ sym (ap length made ∙ length-map (annihilators m n (vectors_of n (lent n claim))) (through m (take n claim))),
-        is ∙ ap (λ (s : List ℕ). over s old) (sym (ap in_rows made)),
+        is ∙ ap (λ (s : List ℕ). over s old) (sym (ap as_rows made)),
       )

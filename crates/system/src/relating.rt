@@ -13,12 +13,12 @@ ghost use Rattle.elimination.specs.Relations.{entries_at, relations, divisor_wit
 ghost use Rattle.tableau.specs.Packed.{triangle};
 ghost use Rattle.system.specs.Posed.{Posed};
 ghost use Rattle.system.specs.Claims.{Claimed, claim_of, vectors_of};
-ghost use Rattle.system.specs.Model.Reading.{rows_in};
+ghost use Rattle.system.specs.Model.Reading.{rows_in, Laid};
 ghost use Rattle.system.specs.Model.Marking.{RightFor};
 
-use crate::limits::{EQUATIONS, LINE, UNKNOWNS};
-use crate::reading::pivot_at;
-use crate::runs::generators_into;
+use crate::keeping::prepare;
+use crate::limits::{BASIS, EQUATIONS, LINE, UNKNOWNS};
+use crate::reading::{packed_size, pivot_at, steps_into};
 use residue::euclid::gcd;
 
 // The first superfluous step of a claim that is right for the lines with this basis, counted from 1; 0 where none is.
@@ -89,6 +89,17 @@ fn first_unit(m: u32, k: usize, lines: &[u32]) -> u32
     let count = generators_into(m, k, lines, &mut generators);
     let end = count * k;
     first_coprime(m, k, &generators[..end])
+}
+
+// The steps of the answer to a system, one behind the other; their number.
+pub(crate) fn generators_into(m: u32, k: usize, lines: &[u32], out: &mut [u32]) -> usize
+    requires { Posed m k lines.now × (k * k ≤ length out.old) }
+    ensures { (result ≤ k) × Laid k (steps_of m k (equations_of k lines.now)) out.old out.new result }
+{
+    let mut rows = [0u32; BASIS];
+    prepare(m, k, lines, &mut rows);
+    let size = packed_size(k + 1, k + 1);
+    steps_into(&rows[..size], out, m, k)
 }
 
 // The system of the relations, a line for each place: the steps' entries there, and the right side, which stays 0.

@@ -1,17 +1,15 @@
-// The runs of the elimination: without carried columns for the vectors of the answer, or for its steps alone, and with one for each
-// equation for the multipliers. A basis is scratch: zeros at first, and just as many as its rows need.
+// The two runs of the elimination: without carried columns for the vectors of the answer, and with one for each equation for
+// the multipliers. A basis is scratch: zeros at first, and just as many as its rows need.
 ghost use Rattle.std.specs.Prelude.{◌≡◌, ◌+◌, ◌*◌, ◌/◌, ◌≤◌, length, replicate};
 ghost use Rattle.slices.specs.Over.{over};
 ghost use Rattle.elimination.specs.Multipliers.{multipliers_of};
-ghost use Rattle.equations.specs.Answer.{steps_of};
 ghost use Rattle.equations.specs.Lines.{equations_of};
 ghost use Rattle.tableau.specs.Packed.{triangle};
 ghost use Rattle.system.specs.Posed.{Posed};
 ghost use Rattle.system.specs.Model.Reading.{Laid, answer_vectors};
 
-use crate::keeping::prepare;
 use crate::limits::BASIS;
-use crate::reading::{packed_size, pivot_at, steps_into, vectors_into};
+use crate::reading::{packed_size, pivot_at, vectors_into};
 use slices::copying::copy;
 use tableau::building::build;
 
@@ -46,17 +44,6 @@ pub(crate) fn refutation(m: u32, n: usize, lines: &[u32], numbers: &mut [u32]) -
     let mut basis = [0u32; 425];
     multipliers_into(&mut basis[..size], numbers, m, n, k, lines);
     k
-}
-
-// The steps of the answer alone, one behind the other; their number.
-pub(crate) fn generators_into(m: u32, n: usize, lines: &[u32], out: &mut [u32]) -> usize
-    requires { Posed m n lines.now × (n * n ≤ length out.old) }
-    ensures { (result ≤ n) × Laid n (steps_of m n (equations_of n lines.now)) out.old out.new result }
-{
-    let mut rows = [0u32; BASIS];
-    prepare(m, n, lines, &mut rows);
-    let size = packed_size(n + 1, n + 1);
-    steps_into(&rows[..size], out, m, n)
 }
 
 // Starting vector and steps into out; their number, which is 0 where there is no solution.

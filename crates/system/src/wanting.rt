@@ -3,7 +3,7 @@
 ghost use Rattle.std.specs.Prelude.{◌≡◌, ◌+◌, ◌*◌, ◌<◌, ◌≤◌, length};
 ghost use Rattle.slices.specs.Over.{over};
 ghost use Rattle.equations.specs.Vectors.{Vector, Below};
-ghost use Rattle.equations.specs.Lines.{in_row, in_rows};
+ghost use Rattle.equations.specs.Lines.{as_row, as_rows};
 ghost use Rattle.equations.specs.Promises.{constant};
 ghost use Rattle.elimination.specs.Through.{through, lines_through, annihilators};
 ghost use Rattle.system.specs.Claims.{Claimed, claim_of, vectors_of};
@@ -11,7 +11,7 @@ ghost use Rattle.system.specs.Model.Reading.{Laid};
 ghost use Rattle.system.specs.Wanted.{wanted_of};
 
 use crate::limits::{EQUATIONS, LINE, UNKNOWNS};
-use crate::runs::generators_into;
+use crate::relating::generators_into;
 use slices::copying::copy;
 use slices::filling::zeros;
 use tableau::products::sum;
@@ -21,7 +21,7 @@ use tableau::products::sum;
 pub fn lines_for(m: u32, n: usize, claim: &[u32], lines: &mut [u32]) -> usize
     requires { (1 < m) × (0 < n) × (n ≤ 16) × Claimed m n claim.now × (n * (n + 1) ≤ length lines.old) }
     ensures value { result ≡ length (wanted_of m n (claim_of n claim.now)) }
-    ensures lines_after { lines.new ≡ over (in_rows (wanted_of m n (claim_of n claim.now))) lines.old }
+    ensures lines_after { lines.new ≡ over (as_rows (wanted_of m n (claim_of n claim.now))) lines.old }
 {
     if claim.len() == 0 {
         contradiction_into(n, lines);
@@ -33,7 +33,7 @@ pub fn lines_for(m: u32, n: usize, claim: &[u32], lines: &mut [u32]) -> usize
 // 0 = 1.
 fn contradiction_into(n: usize, lines: &mut [u32])
     requires { n + 1 ≤ length lines.old }
-    ensures { lines.new ≡ over (in_row (constant n 1)) lines.old }
+    ensures { lines.new ≡ over (as_row (constant n 1)) lines.old }
 {
     zeros(&mut lines[..n]);
     lines[n] = 1;
@@ -45,7 +45,7 @@ fn lines_around(m: u32, n: usize, start: &[u32], steps: &[u32], lines: &mut [u32
         × (n * (n + 1) ≤ length lines.old) }
     ensures value { result ≡ length (annihilators m n (vectors_of n steps.now)) }
     ensures lines_after { lines.new
-        ≡ over (in_rows (lines_through m start.now (annihilators m n (vectors_of n steps.now)))) lines.old }
+        ≡ over (as_rows (lines_through m start.now (annihilators m n (vectors_of n steps.now)))) lines.old }
 {
     let mut generators = [0u32; UNKNOWNS * UNKNOWNS];
     let count = annihilators_into(m, n, steps, &mut generators);
@@ -69,9 +69,9 @@ fn annihilators_into(m: u32, n: usize, steps: &[u32], out: &mut [u32]) -> usize
 // An equation for each of the vectors: it goes through the start.
 fn through_into(m: u32, n: usize, start: &[u32], vectors: &[u32], lines: &mut [u32])
     requires { (0 < m) × (0 < n) × (n ≤ 16) × Vector m n start.now × Below m vectors.now
-        × (length (in_rows (lines_through m start.now (vectors_of n vectors.now))) ≤ length lines.old) }
+        × (length (as_rows (lines_through m start.now (vectors_of n vectors.now))) ≤ length lines.old) }
     ensures { lines.new
-        ≡ over (in_rows (lines_through m start.now (vectors_of n vectors.now))) lines.old }
+        ≡ over (as_rows (lines_through m start.now (vectors_of n vectors.now))) lines.old }
 {
     let mut rest = &vectors[..];
     let mut at: usize = 0;
@@ -85,7 +85,7 @@ fn through_into(m: u32, n: usize, start: &[u32], vectors: &[u32], lines: &mut [u
 // g·x = g·c, for the start c.
 fn line_into(m: u32, n: usize, start: &[u32], g: &[u32], line: &mut [u32])
     requires { (0 < m) × (n ≤ 16) × Vector m n start.now × Vector m n g.now × (n + 1 ≤ length line.old) }
-    ensures { line.new ≡ over (in_row (through m start.now g.now)) line.old }
+    ensures { line.new ≡ over (as_row (through m start.now g.now)) line.old }
 {
     copy(g, line);
     line[n] = sum(g, start, m);

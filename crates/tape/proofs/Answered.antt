@@ -95,5 +95,5 @@ module _ (s : Sheet) (number : ℕ) {shown : Shown} (is : shown ≡ shown_of (le
       pub shown-lines : block_lines n (shown.block.head ∷ take shown.block.len shown.block.numbers)
           ≡ lines_on s (queries (answers_from_tape number))
       shown-lines =
-          rw same
-          (ap (block_lines (unknowns_of l)) (solved_block l allowed b made) ∙ accepted_told l (queries (answers_from_tape number)) accepted)
+          ap (λ (k : ℕ). block_lines k (b.head ∷ take b.len b.numbers)) same
+          ∙ ap (block_lines (unknowns_of l)) (solved_block l allowed b made) ∙ accepted_told l (queries (answers_from_tape number)) accepted

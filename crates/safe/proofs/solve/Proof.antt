@@ -8,15 +8,13 @@ use lib.ListN.{length, take}
 use lib.Seq.{length-take-le}
 use Rattle.slices.specs.Over.{over}
 use Rattle.questions.specs.Questions.{first_no}
-use Rattle.questions.specs.Reply.{Gives}
 use Rattle.words.specs.Words.{words_in, numbers_of}
 use Rattle.words.proofs.Words.{number_of, parts_count}
 use Rattle.words.proofs.Unpacked.{parts_seen}
 use Rattle.safe.specs.declared.Turned.{Turned}
-use Rattle.safe.specs.declared.Turned.TheVariants.{Refused}
 use Rattle.safe.specs.Turns.{turns_of}
 use Rattle.safe.specs.Calls.{most_locks, argument_questions, found, turns_reply, turned_of, buffer_after}
-use Rattle.safe.specs.Model.Handed.{values_room, Lockable}
+use Rattle.safe.specs.Model.Handed.{values_room, Lockable, Gives}
 use Rattle.safe.proofs.Questions.{accepted}
 use Rattle.safe.proofs.Calls.{refused, let_in}
 use borrow.Author.Rules.{rules}
@@ -43,11 +41,11 @@ module _ (m rows columns : ℕ) (values : List ℕ) {number : ℕ} (is : number 
 
     replied : (buffer : List ℕ) {new : List ℕ} {r : Turned}
         → (rows * columns ≡ length (take (rows * columns) numbers)
-        → Gives Refused (found (turns_of m rows columns (take (rows * columns) numbers))) buffer r new)
-        → Gives Refused (turns_reply m rows columns values) buffer r new
+        → Gives (found (turns_of m rows columns (take (rows * columns) numbers))) buffer r new)
+        → Gives (turns_reply m rows columns values) buffer r new
     replied buffer {new} {r} given =
         let_in m rows columns values buffer number is none
-        (subst (λ (ns : List ℕ). Gives Refused (found (turns_of m rows columns ns)) buffer r new) all_seen (given lockable.count))
+        (subst (λ (ns : List ℕ). Gives (found (turns_of m rows columns ns)) buffer r new) all_seen (given lockable.count))
 
 slice-aggregate-refusal : tie.Need-slice-aggregate-refusal
 slice-aggregate-refusal c = search rules

@@ -2,7 +2,10 @@
 use Rattle.std.specs.Prelude.{List, ◌≡◌, ℕ, ◌+◌, ◌*◌, ◌<◌, ◌≤◌, length, take}
 use Rattle.std.proofs.Math.Option.{Option, none, some}
 use Rattle.questions.specs.Questions.{largest_modulus}
+use Rattle.questions.specs.Reply.{Reply, result_of, memory_after}
 use Rattle.equations.specs.Vectors.{Below}
+use Rattle.safe.specs.declared.Turned.{Turned}
+use Rattle.safe.specs.declared.Turned.TheVariants.{Refused}
 use Rattle.safe.specs.Calls.{most_locks}
 
 -- so many words of the values are seen: one more than locks, which shows that there are too many
@@ -23,3 +26,7 @@ pub record Lockable (m rows columns : ℕ) (values : List ℕ) : Type 0 where
 abbrev pub Found : ℕ → Option (List ℕ) → ℕ → List ℕ → Type 0
 Found n none head numbers = head ≡ 0
 Found n (some turns) head numbers = (0 < head) × (take n numbers ≡ turns)
+
+-- a result, and what the buffer holds then, are those of a reply
+abbrev pub Gives : Reply Turned → List ℕ → Turned → List ℕ → Type 0
+Gives reply old r new = (r ≡ result_of Refused reply old) × (new ≡ memory_after reply old)

@@ -4,22 +4,22 @@ use mathlib.Core.List.{List}
 use Prim.Native.Nat.{ℕ}
 use native.Mathlib.Omega.{arith}
 use borrow.Author.Rules.{rules}
-use lib.ListN.{take}
+use lib.ListN.{length, take}
 use lib.Seq.{length-take-le}
 use Rattle.slices.specs.Over.{over}
 use Rattle.slices.proofs.Parts.{lent, lent_length}
 use Rattle.equations.specs.declared.Reason.TheVariants.{Changes}
+use Rattle.equations.specs.Vectors.{Vector}
 use Rattle.equations.specs.Equation.{Equation}
 use Rattle.equations.specs.Lines.{equations_of}
 use Rattle.equations.specs.Claim.{Claim, from}
-use Rattle.equations.proofs.Vectors.{below-take}
+use Rattle.equations.proofs.Vectors.{vector_of, below-take}
 use Rattle.equations.proofs.Lines.{equations-shaped}
 use Rattle.tableau.proofs.Lines.{below_lent}
 use Rattle.system.specs.declared.explaining.Finding.{Finding}
-use Rattle.system.specs.Claims.{vectors_of}
+use Rattle.system.specs.Claims.{Claimed, vectors_of}
 use Rattle.system.specs.Reasons.{shown_with, finding_of}
 use Rattle.system.proofs.Marks.{claim_front, claim_of_none, claim_of_some, start_right, steps_right}
-use Rattle.system.proofs.Claims.{claim_start}
 use Rattle.system.proofs.Explained.{explained, explained_broken, reason_changes}
 use Rattle.system.proofs.explaining.explain.Statement.{statement}
 use Rattle.system.proofs.explaining.explain.Tie as tie
@@ -31,6 +31,14 @@ module _ (m n : ℕ) (es : List Equation) (old : List ℕ) {x claim : Claim} (sa
 
   turned : {found : Finding} {new : List ℕ} → Found x found new → Found claim found new
   turned {found} {new} is = subst (λ (y : Claim). Found y found new) same is
+
+-- the start of a claim that has one
+module _ (m n : ℕ) (claim : List ℕ) (claimed : Claimed m n claim) (some : length claim ≡ 0 → ⊥) where
+  start-long : length (take n claim) ≡ n
+  start-long = length-take-le n claim (claim_front m n claim claimed some)
+
+  start_vector : Vector m n (take n claim)
+  start_vector = vector_of m n (take n claim) start-long (below-take m n claim claimed.residues)
 
 explain-none-requires : tie.Need-explain-none-requires
 explain-none-requires c κs = search rules
@@ -47,7 +55,7 @@ returns c =
 slice-aggregate-start : tie.Need-slice-aggregate-start
 slice-aggregate-start c =
     let z = c.before.before.before.before.before in
-    sym (length-take-le z.args.n z.args.claim.now (claim_front z.args.m z.args.n z.args.claim.now z.requires.1 c.before.if1.false))
+    sym (start-long z.args.m z.args.n z.args.claim.now z.requires.1 c.before.if1.false)
 
 mul-steps : tie.Need-overflow-mul-steps
 mul-steps c = search rules
@@ -67,11 +75,8 @@ first-broken-requires : tie.Need-first-broken-requires
 first-broken-requires c κs =
     let z = c.before.before.before.before.before.before in
     let a = z.args in
-    let claim = a.claim.now in (
-      z.requires.0,
-      length-take-le a.n claim (claim_front a.m a.n claim z.requires.1 c.before.before.if1.false),
-      below-take a.m a.n claim z.requires.1.residues,
-    )
+    let claim = a.claim.now in
+    (z.requires.0, start-long a.m a.n claim z.requires.1 c.before.before.if1.false, below-take a.m a.n claim z.requires.1.residues)
 
 explain-broken-requires : tie.Need-explain-broken-requires
 explain-broken-requires c κs = search rules
@@ -113,7 +118,7 @@ returns-3 c =
     turned a.m a.n es a.shown.now (claim_of_some a.n claim some)
     (explained a.m a.n es (from (take a.n claim) ss) (Changes change.result.step change.result.line)
     (reason_changes a.m a.n es (take a.n claim) ss (omega (arith, z.requires.0.modulus)) (equations-shaped a.n a.lines.now)
-    (claim_start a.m a.n claim z.requires.1 some) (start_right a.m es (take a.n claim) broken.result broken.ensures c.before.before.before.if2.false)
+    (start_vector a.m a.n claim z.requires.1 some) (start_right a.m es (take a.n claim) broken.result broken.ensures c.before.before.before.if2.false)
     change.result.step change.result.line change.ensures.0 change.ensures.1 c.if3.true) a.shown.now 0 refl refl)
 
 explain-missing-requires : tie.Need-explain-missing-requires
@@ -126,7 +131,7 @@ explain-missing-requires c κs =
     let change = c.before.before.before.first-change in (
       (
         z.requires.0,
-        claim_start a.m a.n claim z.requires.1 c.before.before.before.before.before.before.before.before.if1.false,
+        start_vector a.m a.n claim z.requires.1 c.before.before.before.before.before.before.before.before.if1.false,
         below_lent a.m a.n claim z.requires.1.residues,
         omega (arith, lent_length a.n claim, z.requires.1.vectors),
         z.requires.2,

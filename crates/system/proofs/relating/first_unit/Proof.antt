@@ -1,7 +1,8 @@
 -- `relating::first_unit` meets its contract: the generators that were written are read as vectors again.
 use mathlib.Core.Path.{sym, ap, ◌∙◌}
 use mathlib.Core.List.{List}
-use Prim.Native.Nat.{ℕ, ◌*◌}
+use Prim.Native.Nat.{ℕ, ◌*◌, ◌≤◌}
+use native.Mathlib.Nat.{mul-le-mul}
 use native.Mathlib.Omega.{arith}
 use lib.Seq.{length-take-le}
 use borrow.Author.Rules.{rules}
@@ -10,9 +11,15 @@ use Rattle.equations.specs.Answer.{steps_of}
 use Rattle.equations.specs.Marks.{place_from}
 use Rattle.equations.proofs.Listed.{steps_vectors}
 use Rattle.elimination.specs.Relations.{coprime_at}
-use Rattle.system.proofs.Generators.{laid_vectors, generators_few}
+use Rattle.system.proofs.Generators.{laid_vectors}
 use Rattle.system.proofs.relating.first_unit.Statement.{statement}
 use Rattle.system.proofs.relating.first_unit.Tie as tie
+
+square-few : (k : ℕ) → k ≤ 16 → k * k ≤ 256
+square-few k few = mul-le-mul {n₁ = k} {m₁ = k} {n₂ = 16} {m₂ = 16} few few
+
+generators_few : (k r : ℕ) → k ≤ 16 → r ≤ k → r * k ≤ 256
+generators_few k r few le = mul-le-mul {n₁ = r} {m₁ = k} {n₂ = 16} {m₂ = 16} (omega arith) few
 
 slice-aggregate-generators-into : tie.Need-slice-aggregate-generators-into
 slice-aggregate-generators-into c = search rules
@@ -20,7 +27,7 @@ slice-aggregate-generators-into c = search rules
 generators-into-requires : tie.Need-generators-into-requires
 generators-into-requires c κs =
     let z = c.before.before in
-    (z.requires, generators_few z.args.k z.args.k z.requires.unknowns (omega arith))
+    (z.requires, square-few z.args.k z.requires.unknowns)
 
 mul-end : tie.Need-overflow-mul-end
 mul-end c =

@@ -9,7 +9,7 @@ use borrow.Author.Rules.{rules}
 use Rattle.slices.proofs.Parts.{lent, lent_is}
 use Rattle.slices.proofs.Poured.{Poured, poured_none, poured_lent, poured_more, poured_all}
 use Rattle.equations.specs.Vectors.{Below}
-use Rattle.equations.specs.Lines.{in_row}
+use Rattle.equations.specs.Lines.{as_row}
 use Rattle.equations.proofs.Vectors.{vector_of, below-take, below-drop}
 use Rattle.elimination.specs.Through.{through}
 use Rattle.system.proofs.Through.{rows_through, through-next, through-none, through-row, through-room}
@@ -77,7 +77,7 @@ line-into-requires c κs =
     let next = through-next a.m a.n a.start.now rest z.requires.1 (omega arith) in
     let fits =
     poured_lent (rows_through a.m a.n a.start.now) a.vectors.now a.lines.now rest l.at l.lines l.invariant.2 z.requires.5
-    (in_row (through a.m a.start.now (take a.n rest))) (lent a.n rest) next in (
+    (as_row (through a.m a.start.now (take a.n rest))) (lent a.n rest) next in (
       z.requires.0,
       z.requires.2,
       z.requires.3,
@@ -123,7 +123,7 @@ loop-again c =
       c.before.before.lines.given.1 ∙ l.invariant.0,
       rw (lent_is) (below-drop a.m a.n rest l.invariant.1),
       poured_more (rows_through a.m a.n a.start.now) a.vectors.now a.lines.now rest l.at l.lines l.invariant.2 z.requires.5
-          (in_row (through a.m a.start.now (take a.n rest))) (lent a.n rest) next
+          (as_row (through a.m a.start.now (take a.n rest))) (lent a.n rest) next
           (l.at + (a.n + 1)) (omega (arith, through-row a.m a.n a.start.now rest z.requires.1 (omega arith))) c.before.before.before.line-into.ensures,
     )
 
