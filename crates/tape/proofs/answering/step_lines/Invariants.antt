@@ -1,0 +1,18 @@
+-- `answering::step_lines` meets its contract. The invariant: the lines of the first i steps are written, in `at` bytes. The
+-- measure is what is left.
+use mathlib.Core.Path.{◌≡◌}
+use Prim.Native.Nat.{◌-◌, ◌*◌, ◌≤◌}
+use lib.ListN.{length}
+use Rattle.slices.specs.Over.{over}
+use Rattle.system.specs.Claims.{vectors_within}
+use Rattle.tape.specs.Output.{step_lines}
+use Rattle.tape.specs.Model.Handed.{line_room}
+use Rattle.tape.proofs.answering.step_lines.Given as goal
+
+abbrev pub invariant-loop-i : goal.invariant-loop-i
+invariant-loop-i l =
+    (i ≤ l.count) × (length l.at ≡ length l.initial.out) × (l.i ≡ length (step_lines (vectors_within i l.n l.vectors))) × (l.i ≤ line_room * i)
+    × (l.at ≡ over (step_lines (vectors_within i l.n l.vectors)) l.initial.out)
+
+abbrev pub decreases-loop-i : goal.decreases-loop-i
+decreases-loop-i l = l.count - i

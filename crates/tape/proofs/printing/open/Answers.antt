@@ -1,0 +1,25 @@
+-- `printing::open` meets its contract: an accepted opening prints what is then seen of the sheet, a refused one its refusal.
+use Rattle.ledger.specs.Calls.{opens, enters}
+use Rattle.tape.proofs.Told.{told, said_holds, said_refused, opened_told}
+use Rattle.tape.proofs.printing.open.Goals as goal
+
+pub returns-in-Holds : goal.returns-in-Holds
+returns-in-Holds c =
+    let a = c.args in
+    let s = a.sheet.now in
+    let call = opens a.words.now in
+    let said = c.«open».ensures in
+    let accepted = said_holds s call said.0 c.in-Holds.is in
+    let line = c.line in
+    told s (enters call) a.out.now said.1 (opened_told s a.words.now accepted said.1 c.seen-seen.ensures.sees)
+    line.ensures.value.0 line.ensures.out_after
+
+pub returns-in-Refused : goal.returns-in-Refused
+returns-in-Refused c =
+    let a = c.args in
+    let s = a.sheet.now in
+    let call = opens a.words.now in
+    let said = c.«open».ensures in
+    let line = c.refused in
+    told s (enters call) a.out.now said.1 (said_refused s call said.0 c.in-Refused.is) line.ensures.value
+    line.ensures.out_after

@@ -1,0 +1,34 @@
+-- `text::spaced_number` meets its contract: `decimal_into` writes into the part behind the space.
+use mathlib.Core.Path.{◌∙◌}
+use native.Mathlib.Omega.{arith}
+use lib.ListN.{set, length-set}
+use Rattle.slices.proofs.Parts.{lent_length}
+use Rattle.slices.proofs.Over.{head_then}
+use Rattle.tape.specs.Text.{decimal}
+use Rattle.tape.proofs.Printed.{decimal-most}
+use Rattle.tape.proofs.text.spaced_number.Goals as goal
+
+pub slice_bounds-decimal_into-count : goal.slice_bounds-decimal_into-count
+slice_bounds-decimal_into-count c = simp length-set (omega arith)
+
+pub slice_bounds-decimal_into-start : goal.slice_bounds-decimal_into-start
+slice_bounds-decimal_into-start c = simp length-set (omega arith)
+
+pub decimal_into-digits-requires : goal.decimal_into-digits-requires
+decimal_into-digits-requires c =
+    let a = c.args in
+    omega (arith, lent_length 1 (set a.out.now 0 32), length-set a.out.now 0 32, decimal-most a.x (omega arith))
+
+pub overflow_add-result : goal.overflow_add-result
+overflow_add-result c =
+    let x = c.args.x in
+    omega (arith, c.decimal_into-digits.ensures.value, decimal-most x (omega arith))
+
+pub shape_of-out : goal.shape_of-out
+shape_of-out c = c.out-1.given.1 ∙ simp length-set
+
+pub returns : goal.returns
+returns c =
+    let a = c.args in
+    let digits = c.decimal_into-digits in
+    let few = decimal-most a.x (omega arith) in record { value = (omega (arith, digits.ensures.value), omega (arith, digits.ensures.value)); out_after = head_then 32 (decimal a.x) a.out.now (omega arith) digits.ensures.out_after }
