@@ -1,14 +1,12 @@
 -- The readers of an expression, a term and a factor meet their contracts together, since the measure falls from each to those that it
 -- calls. Each reader meets its contract where those that it calls do with a smaller measure: each way out is one law of
 -- proofs/Readers.antt.
-use mathlib.Core.Path.{◌≡◌, sym, ap, ◌∙◌}
-use mathlib.Core.Bool.{true}
+use mathlib.Core.Path.{sym, ap, ◌∙◌}
 use Prim.Native.Nat.{ℕ}
 use native.Mathlib.Omega.{arith}
 use borrow.Author.Tests.{not-true, not-false}
-use lib.ListN.{drop}
 use Rattle.grammar.specs.Grammar.{largest_unknown}
-use Rattle.grammar.specs.Model.Reader.{next, is_sign, joined}
+use Rattle.grammar.specs.Model.Reader.{is_sign, joined}
 use Rattle.typed.specs.declared.forms.Form.{Form}
 use Rattle.typed.specs.Model.Forms.{forms}
 use Rattle.typed.proofs.Places.{inside, sign-inside}

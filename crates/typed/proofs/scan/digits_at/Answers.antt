@@ -1,6 +1,5 @@
 -- `digits_at` meets its contract. The invariant: the digits from i up to j are taken, and make the value.
 use mathlib.Core.Path.{sym, ◌∙◌}
-use Prim.Native.Nat.{◌-◌}
 use native.Mathlib.Omega.{arith}
 use lib.ListN.{get_or}
 use borrow.Author.Tests.{not-true, not-false}

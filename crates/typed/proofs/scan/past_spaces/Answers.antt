@@ -1,6 +1,5 @@
 -- `past_spaces` meets its contract. The invariant: skipping from i on is skipping from j on.
 use mathlib.Core.Path.{sym, ◌∙◌}
-use Prim.Native.Nat.{◌-◌}
 use native.Mathlib.Omega.{arith}
 use lib.ListN.{get_or}
 use borrow.Author.Tests.{eqb-true, eqb-false}
@@ -20,8 +19,11 @@ loop-j-preserved c =
 pub returns-else-text-j-eq32 : goal.returns-else-text-j-eq32
 returns-else-text-j-eq32 c =
     let a = c.args in
-    let l = c.loop-j in record { lower_bound = (omega arith, omega arith); text_value = sym (l.invariant.2 ∙ skip_end a.text.now l.j (omega arith)
-          (eqb-false (get_or a.text.now l.j 0) 32 c.if-text-j-eq32.false-raw)) }
+    let l = c.loop-j in record {
+      lower_bound = (omega arith, omega arith);
+      text_value = sym (l.invariant.2 ∙ skip_end a.text.now l.j (omega arith)
+          (eqb-false (get_or a.text.now l.j 0) 32 c.if-text-j-eq32.false-raw));
+    }
 
 pub returns-after-loop-j : goal.returns-after-loop-j
 returns-after-loop-j c =
