@@ -58,9 +58,15 @@ fn read_all<R: Read>(input: &mut R, tape: &mut [u8]) -> Input
     let mut count = 0;
     while count < tape.len() {
         match input.read(&mut tape[count..]) {
-            Ok(0) => return Input { count, failed: false },
+            Ok(0) => return Input {
+                count,
+                failed: false,
+            },
             Ok(more) => count += more,
-            Err(_) => return Input { count, failed: true },
+            Err(_) => return Input {
+                count,
+                failed: true,
+            },
         }
     }
     Input {
@@ -70,7 +76,9 @@ fn read_all<R: Read>(input: &mut R, tape: &mut [u8]) -> Input
 }
 
 // A call at a time, then the line of the bytes left over. No call is made after a failed write.
-fn print<W: Write>(to: &mut W, tape: &[u8]) -> io::Result<()> {
+fn print<W: Write>(to: &mut W, tape: &[u8]) -> io::Result<()>
+    ensures { length tape.now ≤ most_bytes → OnOk result (Appends (W.contents to.old) (W.contents to.new) (lines tape.now)) }
+{
     let mut out = [0u8; CALL_ROOM];
     let fresh = Sheet::fresh();
     let mut sheet = fresh.numbers;
