@@ -11,8 +11,6 @@ use Rattle.tape.specs.Output.{left_over_line}
 use Rattle.tape.specs.Reader.{lines_on, first_on}
 use Rattle.tape.proofs.Runs.{step-bytes, step-written, step_fits}
 use Rattle.tape.proofs.Written.{
-use Rattle.tape.proofs.running.write.Goals as goal
-
   copied,
   Written,
   written_none,
@@ -23,6 +21,7 @@ use Rattle.tape.proofs.running.write.Goals as goal
   room-last,
   taken_fits,
 }
+use Rattle.tape.proofs.running.write.Goals as goal
 
 pub loop-rest-init : goal.loop-rest-init
 loop-rest-init c =
