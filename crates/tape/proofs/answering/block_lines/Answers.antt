@@ -71,10 +71,3 @@ returns c =
     let line = c.line-from in
     let steps = c.step_lines in record { value = block-length a.n a.head a.numbers.now a.out.now (λ e. omega arith) line.ensures.value.0 steps.ensures.value.0; out_after = block_written a.n a.head a.numbers.now a.out.now (λ e. omega arith) line.result line.ensures.value.0
           line.ensures.out_after steps.ensures.out_after }
-
--- SKIPPED
--- | slice-aggregate-line-3 : tie.Need-slice-aggregate-line-3
--- | slice-aggregate-line-3 c =
--- |     let z = c.before.before.before.before.before in
--- |     let fits = head_fits z.args.head z.args.n (length z.args.numbers.now) (λ e. omega arith) z.requires.0.vectors in
--- |     sym (length-take-le z.args.n z.args.numbers.now (omega (arith, fits)))

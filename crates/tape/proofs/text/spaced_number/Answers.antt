@@ -24,9 +24,6 @@ overflow_add-result c =
     let x = c.args.x in
     omega (arith, c.decimal_into-digits.ensures.value, decimal-most x (omega arith))
 
-pub shape_of-out : goal.shape_of-out
-shape_of-out c = c.out-1.given.1 ∙ simp length-set
-
 pub returns : goal.returns
 returns c =
     let a = c.args in
