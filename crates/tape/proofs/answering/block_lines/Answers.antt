@@ -69,5 +69,8 @@ pub returns : goal.returns
 returns c =
     let a = c.args in
     let line = c.line-from in
-    let steps = c.step_lines in record { value = block-length a.n a.head a.numbers.now a.out.now (λ e. omega arith) line.ensures.value.0 steps.ensures.value.0; out_after = block_written a.n a.head a.numbers.now a.out.now (λ e. omega arith) line.result line.ensures.value.0
-          line.ensures.out_after steps.ensures.out_after }
+    let steps = c.step_lines in record {
+      value = block-length a.n a.head a.numbers.now a.out.now (λ e. omega arith) line.ensures.value.0 steps.ensures.value.0;
+      out_after = block_written a.n a.head a.numbers.now a.out.now (λ e. omega arith) line.result line.ensures.value.0
+          line.ensures.out_after steps.ensures.out_after;
+    }

@@ -24,12 +24,11 @@ use Rattle.tape.proofs.Written.{
 use Rattle.tape.proofs.running.write.Goals as goal
 
 pub loop-rest-init : goal.loop-rest-init
-loop-rest-init c =
-    (
-      search rules,
-      search rules,
-      written_none c.args.tape.now c.args.out.now c.requires.0 c.fresh-fresh.ensures,
-    )
+loop-rest-init c = (
+  search rules,
+  search rules,
+  written_none c.args.tape.now c.args.out.now c.requires.0 c.fresh-fresh.ensures,
+)
 
 pub slice_bounds-rest-count : goal.slice_bounds-rest-count
 slice_bounds-rest-count c =

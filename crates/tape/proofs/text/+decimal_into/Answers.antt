@@ -42,5 +42,5 @@ returns t c =
       value = omega (arith, front.ensures.value, decimal-length a.x more d.ensures.0);
       out_after =
           decimal-next a.x d.result.quotient d.result.remainder c.digit-2.result front.result a.out.now more d.ensures.0
-              d.ensures.1 c.digit-2.ensures front.ensures.value (omega arith) front.ensures.out_after;
+          d.ensures.1 c.digit-2.ensures front.ensures.value (omega arith) front.ensures.out_after;
     }
