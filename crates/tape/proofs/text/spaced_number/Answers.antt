@@ -28,4 +28,8 @@ pub returns : goal.returns
 returns c =
     let a = c.args in
     let digits = c.decimal_into-digits in
-    let few = decimal-most a.x (omega arith) in record { value = (omega (arith, digits.ensures.value), omega (arith, digits.ensures.value)); out_after = head_then 32 (decimal a.x) a.out.now (omega arith) digits.ensures.out_after }
+    let few = decimal-most a.x (omega arith) in
+    record {
+      value = (omega (arith, digits.ensures.value), omega (arith, digits.ensures.value));
+      out_after = head_then 32 (decimal a.x) a.out.now (omega arith) digits.ensures.out_after;
+    }
