@@ -24,11 +24,12 @@ overflow_add-result c =
     let x = c.args.x in
     omega (arith, c.decimal_into-digits.ensures.value, decimal-most x (omega arith))
 
-pub shape_of-out : goal.shape_of-out
-shape_of-out c = c.out-1.given.1 ∙ simp length-set
-
 pub returns : goal.returns
 returns c =
     let a = c.args in
     let digits = c.decimal_into-digits in
-    let few = decimal-most a.x (omega arith) in record { value = (omega (arith, digits.ensures.value), omega (arith, digits.ensures.value)); out_after = head_then 32 (decimal a.x) a.out.now (omega arith) digits.ensures.out_after }
+    let few = decimal-most a.x (omega arith) in
+    record {
+      value = (omega (arith, digits.ensures.value), omega (arith, digits.ensures.value));
+      out_after = head_then 32 (decimal a.x) a.out.now (omega arith) digits.ensures.out_after;
+    }
