@@ -105,16 +105,22 @@ returns-then-y-eq1 c =
     let p = c.args in
     let l = c.loop-y in
     let pos : 0 < p.m = omega arith in
-    let one : l.y ≡ 1 = omega arith in record { value = ends pos (ap (λ (k : ℕ). l.x % k) one ∙ mod-one l.x) (step pos (omega arith) refl refl l.invariant) (sym one)
+    let one : l.y ≡ 1 = omega arith in record {
+      value = ends pos (ap (λ (k : ℕ). l.x % k) one ∙ mod-one l.x) (step pos (omega arith) refl refl l.invariant) (sym one)
           (by_size (not l.odd) p.m c.wide.ensures c.signed.ensures.0)
           (rw (not-not l.odd) (by_size l.odd p.m c.wide-then-y-eq1.ensures c.signed-then-y-eq1.ensures.0))
-          (sym (div-one p.a)) (sym (div-one p.b)); s_lt_m = (c.signed.ensures.1, c.signed-then-y-eq1.ensures.1) }
+          (sym (div-one p.a)) (sym (div-one p.b));
+      s_lt_m = (c.signed.ensures.1, c.signed-then-y-eq1.ensures.1);
+    }
 
 pub returns-else-y-eq1 : goal.returns-else-y-eq1
 returns-else-y-eq1 c =
     let m = c.args.m in
     let l = c.loop-y in
     let last : l.y ≡ 0 = omega arith in
-    let whole = quotients_end (omega arith) last l.invariant in record { value = ends (omega arith) last l.invariant refl
+    let whole = quotients_end (omega arith) last l.invariant in record {
+      value = ends (omega arith) last l.invariant refl
           (by_size l.odd m c.wide-else-y-eq1.ensures c.signed-else-y-eq1.ensures.0)
-          (by_size (not l.odd) m c.wide-else-y-eq1-2.ensures c.signed-else-y-eq1-2.ensures.0) whole.0 whole.1; s_lt_m = (c.signed-else-y-eq1.ensures.1, c.signed-else-y-eq1-2.ensures.1) }
+          (by_size (not l.odd) m c.wide-else-y-eq1-2.ensures c.signed-else-y-eq1-2.ensures.0) whole.0 whole.1;
+      s_lt_m = (c.signed-else-y-eq1.ensures.1, c.signed-else-y-eq1-2.ensures.1);
+    }

@@ -42,7 +42,7 @@ pub returns-then-claim-eq0 : goal.returns-then-claim-eq0
 returns-then-claim-eq0 c =
     let a = c.args in
     let both = turned a.m a.n (equations_of a.n a.lines.now) a.shown.now (sym (claim_of_none a.n a.claim.now c.if-claim-eq0.true))
-    c.explain_none.ensures in record { value = both.0; shown_after = both.1 }
+    (c.explain_none.ensures.value, c.explain_none.ensures.shown_after) in record { value = both.0; shown_after = both.1 }
 
 pub slice_bounds-start-end : goal.slice_bounds-start-end
 slice_bounds-start-end c =
@@ -103,19 +103,22 @@ explain_missing-requires c =
     let es = equations_of a.n a.lines.now in
     let claim = a.claim.now in
     let broken = c.first_broken-broken in
-    let change = c.first_change-change in record { posed = (
+    let change = c.first_change-change in record {
+      posed = (
         c.requires.0,
         start_vector a.m a.n claim c.requires.1 c.if-claim-eq0.false,
         below_lent a.m a.n claim c.requires.1.residues,
         omega (arith, lent_length a.n claim, c.requires.1.vectors),
         c.requires.2,
-      ); start_value = (
+      );
+      start_value = (
         start_right a.m es (take a.n claim) broken.result broken.ensures c.if-broken-ne0.false,
         steps_right a.m es (vectors_of a.n (lent a.n claim)) change.result.step change.ensures.0 c.if-change-ne0.false,
-      ) }
+      );
+    }
 
 pub returns : goal.returns
 returns c =
     let a = c.args in
     let both = turned a.m a.n (equations_of a.n a.lines.now) a.shown.now (claim_of_some a.n a.claim.now c.if-claim-eq0.false)
-    c.explain_missing.ensures in record { value = both.0; shown_after = both.1 }
+    (c.explain_missing.ensures.value, c.explain_missing.ensures.shown_after) in record { value = both.0; shown_after = both.1 }

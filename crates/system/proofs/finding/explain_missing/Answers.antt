@@ -67,12 +67,15 @@ missed_into-requires c =
     let based = prepared_front a.m a.n a.lines.now _ c.prepare.ensures size.result size.ensures in
     let place = c.missing-place in
     let above = found_above a.m a.n a.lines.now _ start a.steps.now c.requires.posed.0 based c.requires.posed.1 c.requires.posed.2
-    c.requires.start_value.0 c.requires.start_value.1 place.result place.ensures c.if-place-eq0.false in record { readable = (
+    c.requires.start_value.0 c.requires.start_value.1 place.result place.ensures c.if-place-eq0.false in record {
+      readable = (
         based.readable,
         vector-length a.m a.n start c.requires.posed.1,
         vector-below a.m a.n start c.requires.posed.1,
         length-take-le a.n a.shown.now (omega (arith, c.requires.posed.0.unknowns)),
-      ); place_nonzero = (omega (arith, c.if-place-eq0.false), above.0, above.1) }
+      );
+      place_nonzero = (omega (arith, c.if-place-eq0.false), above.0, above.1);
+    }
 
 -- a solution is not described
 pub returns : goal.returns

@@ -36,6 +36,9 @@ pub returns : goal.returns
 returns c =
     let a = c.args in
     let size = c.packed_size-size in
-    let there = c.prepare.ensures in record { value = pivot_decides a.m a.n a.lines.now _ c.requires.0
+    let there = c.prepare.ensures in record {
+      value = pivot_decides a.m a.n a.lines.now _ c.requires.0
           (prepared_front a.m a.n a.lines.now _ there size.result size.ensures) c.pivot_at.result
-          (c.pivot_at.ensures (a.n + 1) (omega arith)); prepared = there }
+          (c.pivot_at.ensures (a.n + 1) (omega arith));
+      prepared = there;
+    }

@@ -16,9 +16,12 @@ claim_solves-requires c =
 pub returns-then-not-claim_solves : goal.returns-then-not-claim_solves
 returns-then-not-claim_solves c =
     let a = c.args in
-    let first = c.claim_solves in record { value = mark-fails a.m a.n _ _ _
+    let first = c.claim_solves in record {
+      value = mark-fails a.m a.n _ _ _
           (not_solved a.m a.n a.lines.now a.claim.now c.requires.0 c.requires.2 first.result first.ensures (not-true _ c.if-not-claim_solves.true-raw))
-          refl; ready = c.requires.1 }
+          refl;
+      ready = c.requires.1;
+    }
 
 pub prepare-requires : goal.prepare-requires
 prepare-requires c =
@@ -56,11 +59,14 @@ returns-then-not-misses_none c =
     let first = c.claim_solves in
     let there = c.prepare.ensures in
     let size = c.packed_size-size in
-    let second = c.misses_none in record { value = mark-fails a.m a.n _ _ second.result
+    let second = c.misses_none in record {
+      value = mark-fails a.m a.n _ _ second.result
           (solved a.m a.n a.lines.now a.claim.now c.requires.0 c.requires.2 first.result first.ensures
           (not-false _ c.if-not-claim_solves.false-raw) _ (prepared_front a.m a.n a.lines.now _ there size.result size.ensures).rows
           second.result second.ensures)
-          (not-true _ c.if-not-misses_none.true-raw); ready = prepared_ready _ _ _ _ there }
+          (not-true _ c.if-not-misses_none.true-raw);
+      ready = prepared_ready _ _ _ _ there;
+    }
 
 pub long_at-step-requires : goal.long_at-step-requires
 long_at-step-requires c =
@@ -86,6 +92,9 @@ returns c =
     let based = prepared_front a.m a.n a.lines.now _ there size.result size.ensures in
     let right = solved a.m a.n a.lines.now a.claim.now c.requires.0 c.requires.2 first.result first.ensures
     (not-false _ c.if-not-claim_solves.false-raw) _ based.rows second.result second.ensures in
-    let yes = not-false _ c.if-not-misses_none.false-raw in record { value = c.right_mark.ensures
+    let yes = not-false _ c.if-not-misses_none.false-raw in record {
+      value = c.right_mark.ensures
           ∙ mark-right a.m a.n _ _ second.result right yes long.result
-          (long.ensures _ (claim_right_for a.m a.n a.lines.now a.claim.now c.requires.2 _ based.rows (sym right ∙ yes))); ready = prepared_ready _ _ _ _ there }
+          (long.ensures _ (claim_right_for a.m a.n a.lines.now a.claim.now c.requires.2 _ based.rows (sym right ∙ yes)));
+      ready = prepared_ready _ _ _ _ there;
+    }

@@ -7,7 +7,7 @@ use Rattle.system.proofs.Rows.{pivot-rows}
 use Rattle.system.proofs.reading.pivot_at.Goals as goal
 
 pub returns : goal.returns
-returns c =
+returns c w h =
     let a = c.args in
     ap (λ (k : ℕ). get_or a.basis.now k 0) c.packed_size-at.ensures
     ∙ sym (pivot-rows w a.i a.l a.basis.now h (omega arith))

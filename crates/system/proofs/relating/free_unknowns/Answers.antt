@@ -1,6 +1,5 @@
 -- `relating::free_unknowns` meets its contract. The invariant: those of the first i columns are counted. The measure is what is left.
 use mathlib.Core.Path.{◌≡◌, refl, sym, ap, ap₂, ◌∙◌}
-use mathlib.Core.Logic.{⊎_elim}
 use mathlib.Core.List.{List}
 use mathlib.Core.Bool.{Bool, true, false, cond}
 use Prim.Native.Nat.{ℕ, suc, ◌+◌, ◌-◌}
@@ -13,6 +12,7 @@ use Rattle.elimination.specs.Relations.{free_for}
 use Rattle.system.specs.Model.Reading.{rows_in}
 use Rattle.system.proofs.Rows.{triangle-within}
 use Rattle.system.proofs.relating.free_unknowns.Goals as goal
+use Rattle.system.proofs.relating.free_unknowns.Goals.{then-pivot_at-m, else-pivot_at-m}
 
 -- one column more, with the pivot d
 module _ (m : ℕ) (B : List (List ℕ)) (i d f free : ℕ) (read : d ≡ pivot i B) (so_far : f ≡ free_for m B i) where
@@ -44,9 +44,11 @@ loop-i-preserved c =
     let pivot = c.pivot_at in
     let read = pivot.ensures (a.n + 1) (omega arith) in (
       omega arith,
-      ⊎_elim (λ h. omega (arith, h.1)) (λ h. omega (arith, h.1)) c.if-pivot_at-m.branch,
-      ⊎_elim (λ h. free_one a.m B l.i pivot.result l.free c.if-pivot_at-m.free read l.invariant.2 h.0.taken h.1)
-          (λ h. free_none a.m B l.i pivot.result l.free c.if-pivot_at-m.free read l.invariant.2 h.0.left h.1) c.if-pivot_at-m.branch,
+      elim c.if-pivot_at-m.branch [ then-pivot_at-m w ↦ omega arith | else-pivot_at-m w ↦ omega arith ],
+      elim c.if-pivot_at-m.branch [
+        | then-pivot_at-m w ↦ free_one a.m B l.i pivot.result l.free c.if-pivot_at-m.free read l.invariant.2 w.if-pivot_at-m.true w.free-is
+        | else-pivot_at-m w ↦ free_none a.m B l.i pivot.result l.free c.if-pivot_at-m.free read l.invariant.2 w.if-pivot_at-m.false w.free-is
+      ],
     )
 
 pub returns : goal.returns

@@ -44,13 +44,16 @@ slice_bounds-multipliers_into-end c =
 
 pub multipliers_into-requires : goal.multipliers_into-requires
 multipliers_into-requires c =
-    let s = c.packed_size-size in record { posed = (c.requires.0, refl); basis_value = (
+    let s = c.packed_size-size in record {
+      posed = (c.requires.0, refl);
+      basis_value = (
         lent_zeros _ 95 s.result s.ensures (small c.args.m c.args.n c.args.lines.now c.requires.0 (omega arith)),
         c.requires.1,
-      ) }
+      );
+    }
 
 pub returns-then-n-le4 : goal.returns-then-n-le4
-returns-then-n-le4 c = let both = c.multipliers_into.ensures in record { value = both.0; numbers_after = both.1 }
+returns-then-n-le4 c = record { value = c.multipliers_into.ensures.k_value; numbers_after = c.multipliers_into.ensures.out_after }
 
 pub slice_bounds-basis-end : goal.slice_bounds-basis-end
 slice_bounds-basis-end c =
@@ -64,10 +67,13 @@ slice_bounds-multipliers_into-end-2 c =
 
 pub multipliers_into-requires-2 : goal.multipliers_into-requires-2
 multipliers_into-requires-2 c =
-    let s = c.packed_size-size in record { posed = (c.requires.0, refl); basis_value = (
+    let s = c.packed_size-size in record {
+      posed = (c.requires.0, refl);
+      basis_value = (
         lent_zeros _ 425 s.result s.ensures (large c.args.m c.args.n c.args.lines.now c.requires.0),
         c.requires.1,
-      ) }
+      );
+    }
 
 pub returns : goal.returns
-returns c = let both = c.multipliers_into-2.ensures in record { value = both.0; numbers_after = both.1 }
+returns c = record { value = c.multipliers_into-2.ensures.k_value; numbers_after = c.multipliers_into-2.ensures.out_after }

@@ -13,4 +13,4 @@ pub returns : goal.returns
 returns c =
     let a = c.args in
     let w = c.solve_into-written in
-    answer_is a.m a.n (equations_of a.n a.lines.now) w.result w.ensures
+    answer_is a.m a.n (equations_of a.n a.lines.now) w.result (w.ensures.value, w.ensures.numbers_after)

@@ -62,5 +62,8 @@ returns c =
     let l = c.load in
     let e = take_at l.new.out (drop len blank) len (l.auto.out ∙ f) in
     let g = relent_length len blank l.new.out (l.auto.out ∙ f) in
-    let i = c.insert in record { basis_after = walk_line a.m (a.n + 1) len a.basis.now i.new.basis (take len (l.new.out ++ drop len blank)) l.new.out
-          (line_at a.plain a.m a.n a.k a.i a.numbers.now) g e l.ensures.out_after i.ensures.basis_after; kept = rw (← g) i.ensures.kept_2 }
+    let i = c.insert in record {
+      basis_after = walk_line a.m (a.n + 1) len a.basis.now i.new.basis (take len (l.new.out ++ drop len blank)) l.new.out
+          (line_at a.plain a.m a.n a.k a.i a.numbers.now) g e l.ensures.out_after i.ensures.basis_after;
+      kept = rw (← g) i.ensures.kept_2;
+    }

@@ -60,11 +60,14 @@ returns-then-rest-eq0 c =
     let a = c.args in
     let R = a.row.now in
     let W = a.line.now in
-    let k = c.reduce in record { inserted = λ _. column-divided a.m R W k.new.line
+    let k = c.reduce in record {
+      inserted = λ _. column-divided a.m R W k.new.line
           c.requires.0 c.requires.1 c.requires.2 c.requires.3 (omega arith)
           (sym q.ensures.1 ∙ c.if-rest-eq0.true)
           (k.ensures
-          ∙ ap (λ (p : ℕ). combine a.m p (negative a.m 1 % a.m) (lent 1 R) (lent 1 W)) q.ensures.0); used_up = λ e. not_both e refl }
+          ∙ ap (λ (p : ℕ). combine a.m p (negative a.m 1 % a.m) (lent 1 R) (lent 1 W)) q.ensures.0);
+      used_up = λ e. not_both e refl;
+    }
 
 pub returns-else-rest-eq0 : goal.returns-else-rest-eq0
 returns-else-rest-eq0 c =
@@ -72,13 +75,16 @@ returns-else-rest-eq0 c =
     let a = c.args in
     let f = c.cofactors-c in
     let k = c.combine_both in
-    let n = c.negate in record { inserted = λ _. column-reduced a.m f.result.divisor f.result.s f.result.t f.result.p n.result
+    let n = c.negate in record {
+      inserted = λ _. column-reduced a.m f.result.divisor f.result.s f.result.t f.result.p n.result
           a.row.now a.line.now k.new.row k.new.line
           c.requires.0 c.requires.1 c.requires.2 c.requires.3 (omega (arith, c.if-v-gt0.true))
           (λ e. c.if-rest-eq0.false (q.ensures.1 ∙ e))
           (reduction a.m (get_or a.row.now 0 0) (get_or a.line.now 0 0) f.result n.result f.ensures.value
           n.ensures.0)
-          k.ensures.row_after k.ensures.line_after; used_up = λ e. not_both e refl }
+          k.ensures.row_after k.ensures.line_after;
+      used_up = λ e. not_both e refl;
+    }
 
 pub returns-else-v-gt0 : goal.returns-else-v-gt0
 returns-else-v-gt0 c =

@@ -13,9 +13,12 @@ pub returns-then-g-eq1 : goal.returns-then-g-eq1
 returns-then-g-eq1 c =
     let a = c.args in
     let f = c.cofactors-c in
-    let k = c.multiple in record { inserted = λ e. not_both refl e; used_up = λ _. column_used_up a.m f.result a.row.now a.line.now k.new.row
+    let k = c.multiple in record {
+      inserted = λ e. not_both refl e;
+      used_up = λ _. column_used_up a.m f.result a.row.now a.line.now k.new.row
           c.requires.row_nonzero.0 c.requires.row_nonzero.1 c.requires.row_nonzero.2 c.requires.row_nonzero.3 c.requires.row_value.0 c.requires.row_value.1
-          (below_at a.m 0 a.line.now c.requires.row_nonzero.3 (omega arith)) f.ensures.value (omega arith) k.ensures }
+          (below_at a.m 0 a.line.now c.requires.row_nonzero.3 (omega arith)) f.ensures.value (omega arith) k.ensures;
+    }
 
 pub returns : goal.returns
 returns c =
@@ -23,7 +26,10 @@ returns c =
     let f = c.cofactors-c in
     let k = c.multiple in
     let n = c.negate in
-    let l = c.scale in record { inserted = λ _. column-first a.m f.result n.result a.row.now a.line.now k.new.row l.new.line
+    let l = c.scale in record {
+      inserted = λ _. column-first a.m f.result n.result a.row.now a.line.now k.new.row l.new.line
           c.requires.row_nonzero.0 c.requires.row_nonzero.1 c.requires.row_nonzero.2 c.requires.row_nonzero.3 c.requires.row_value.0 c.requires.row_value.1
           (below_at a.m 0 a.line.now c.requires.row_nonzero.3 (omega arith)) f.ensures.value n.ensures.0 k.ensures
-          l.ensures; used_up = λ e. not_both e refl }
+          l.ensures;
+      used_up = λ e. not_both e refl;
+    }

@@ -1,9 +1,9 @@
 -- `unpacking::top_at` meets its contract: the memory word carries the top of the next one, or it carries none, or nothing is behind it.
 use mathlib.Core.Path.{sym, ◌∙◌}
-use mathlib.Core.Logic.{⊎_elim}
 use native.Mathlib.Omega.{arith}
 use Rattle.words.proofs.Tops.{taken_last, taken_single, taken_pair}
 use Rattle.words.proofs.unpacking.top_at.Goals as goal
+use Rattle.words.proofs.unpacking.top_at.Goals.{then-next-memory+else-carries, else-next-memory}
 
 pub join-requires : goal.join-requires
 join-requires c = sym c.carries.ensures ∙ c.if-carries.true
@@ -18,9 +18,10 @@ pub returns : goal.returns
 returns c =
     let a = c.args in
     let word = c.unpack.ensures in
-    let both = ⊎_elim
-    (λ h.
-    let t = taken_single a.memory.now a.at (omega (arith, h.0.taken)) (sym h.2.ensures ∙ h.3.left) in
-    (word ∙ t.0, t.1))
-    (λ h. let t = taken_last a.memory.now a.at (omega arith) (omega (arith, h.left)) in (word ∙ t.0, t.1))
-    c.if-next-memory.branch in record { word_value = both.0; length_value = both.1 }
+    elim c.if-next-memory.branch [
+      | then-next-memory+else-carries w ↦
+          let t = taken_single a.memory.now a.at (omega arith) (sym w.carries.ensures ∙ w.if-carries.false) in
+          record { word_value = word ∙ t.0; length_value = t.1 }
+      | else-next-memory w ↦
+          let t = taken_last a.memory.now a.at (omega arith) (omega arith) in record { word_value = word ∙ t.0; length_value = t.1 }
+    ]

@@ -33,9 +33,12 @@ pub returns-then-number-ge-NUMBERS : goal.returns-then-number-ge-NUMBERS
 returns-then-number-ge-NUMBERS c =
     let a = c.args in
     let large = le-ltb a.number numbers_of_aKind (omega arith) in
-    let parts = c.unpack-parts.ensures in record { value = sym (length_large a.kind a.number large); out_after = two_over a.kind a.number large a.out.now (omega (arith, length_large a.kind a.number large))
+    let parts = c.unpack-parts.ensures in record {
+      value = sym (length_large a.kind a.number large);
+      out_after = two_over a.kind a.number large a.out.now (omega (arith, length_large a.kind a.number large))
           (c.word.ensures ∙ ap (λ (x : ℕ). word top_kind x) (ap kind_of parts))
-          (c.word-then-number-ge-NUMBERS.ensures ∙ ap (λ (x : ℕ). word a.kind x) (ap number_of parts)) }
+          (c.word-then-number-ge-NUMBERS.ensures ∙ ap (λ (x : ℕ). word a.kind x) (ap number_of parts));
+    }
 
 pub bounds-out-0-2 : goal.bounds-out-0-2
 bounds-out-0-2 c =
