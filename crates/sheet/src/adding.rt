@@ -33,9 +33,9 @@ impl Sheet {
 
 // The line mod q goes behind the last, also where nothing solves those before it.
 pub(crate) fn with_line(sheet: &mut [u32], q: u32, line: &[u32])
-    requires t { T (is_opened (ledger_of sheet.old)) × (held_in sheet.old < most_equations)
+    requires room { T (is_opened (ledger_of sheet.old)) × (held_in sheet.old < most_equations)
         × (length line.now ≡ unknowns_in sheet.old + 1) }
-    requires t_2 { T (allowed_own (modulus_in sheet.old) q) × Below q line.now }
+    requires residues { T (allowed_own (modulus_in sheet.old) q) × Below q line.now }
     ensures { sheet.new
         ≡ record_by sheet.old (gains (record { modulus = q; equation = equation_at (unknowns_in sheet.old) line.now })) }
 {

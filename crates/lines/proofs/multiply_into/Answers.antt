@@ -2,7 +2,7 @@
 -- what is left.
 use mathlib.Core.Path.{sym}
 use mathlib.Core.List.{map}
-use Prim.Native.Nat.{ℕ, ◌-◌, ◌*◌}
+use Prim.Native.Nat.{ℕ, ◌*◌}
 use native.Mathlib.Omega.{arith}
 use lib.ListN.{length-map, get_or-map}
 use Rattle.slices.proofs.Copied.{copied_none, copied_more, copied_all}

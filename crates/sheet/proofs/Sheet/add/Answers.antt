@@ -44,7 +44,7 @@ with_line-requires c =
     let front = asked.ensures.line_after (add-opened s ws sees r.refusal is none) in
     let both = gain_fits s (adds ws) _ refl sees r.refusal is none r.modulus (line_own s ws sees r.refusal r.modulus is none own zeros front)
     _ (line-long s ws sees r.refusal r.modulus is none own zeros front)
-    (line_lies s ws sees r.refusal r.modulus is none own zeros front) in record { t = both.0; t_2 = both.1 }
+    (line_lies s ws sees r.refusal r.modulus is none own zeros front) in record { room = both.0; residues = both.1 }
 
 pub returns : goal.returns
 returns c =

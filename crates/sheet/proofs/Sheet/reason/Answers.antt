@@ -72,12 +72,12 @@ returns-in-Gives c =
     let s = a.sheet.now in
     let ws = a.words.now in
     let found = c.explain_claim-explained in
-    let is = c.inlet both = -Gives.is in
+    let is = c.in-Gives.is in
     let said = said s ws found.ensures.value is in
     let show = c.show in
     let modulus = c.view-view.ensures.views.sees.modulus in
     let shown = reason-shown (ledger_of s) ws a.buffer.now said.0 _ _ _ modulus said.1 (front s ws found.ensures.value is found.ensures.shown_after) in
-    (show.ensures.value ∙ shown.0, show.ensures.buffer_after ∙ shown.1) in record { value = both.0; buffer_after = both.1 }
+    record { value = show.ensures.value ∙ shown.0; buffer_after = show.ensures.buffer_after ∙ shown.1 }
 
 pub returns-in-Refused : goal.returns-in-Refused
 returns-in-Refused c =

@@ -9,56 +9,65 @@ use Rattle.sheet.proofs.adding.with_line.Goals as goal
 
 pub bounds-sheet-0 : goal.bounds-sheet-0
 bounds-sheet-0 c =
-    let long = whole c.args.sheet.now c.requires.t.0 in search rules
+    let long = whole c.args.sheet.now c.requires.room.0 in search rules
 
 pub bounds-sheet-2 : goal.bounds-sheet-2
 bounds-sheet-2 c =
-    let long = whole c.args.sheet.now c.requires.t.0 in search rules
+    let long = whole c.args.sheet.now c.requires.room.0 in search rules
 
 pub bounds-sheet-1 : goal.bounds-sheet-1
 bounds-sheet-1 c =
-    let long = whole c.args.sheet.now c.requires.t.0 in search rules
+    let long = whole c.args.sheet.now c.requires.room.0 in search rules
 
 pub slice_bounds-scale_into-count : goal.slice_bounds-scale_into-count
 slice_bounds-scale_into-count c =
-    lines-within c.args.sheet.now c.requires.t.0 c.wide.ensures c.wide-width.ensures
+    lines-within c.args.sheet.now c.requires.room.0 c.wide.ensures c.wide-width.ensures
 
 pub overflow_mul-at : goal.overflow_mul-at
-overflow_mul-at c = omega (arith, (
-    lines-within c.args.sheet.now c.requires.t.0 c.wide.ensures c.wide-width.ensures))
+overflow_mul-at c = omega (
+  arith,
+  (
+      lines-within c.args.sheet.now c.requires.room.0 c.wide.ensures c.wide-width.ensures),
+)
 
 pub overflow_add-at : goal.overflow_add-at
-overflow_add-at c = omega (arith, (
-    lines-within c.args.sheet.now c.requires.t.0 c.wide.ensures c.wide-width.ensures))
+overflow_add-at c = omega (
+  arith,
+  (
+      lines-within c.args.sheet.now c.requires.room.0 c.wide.ensures c.wide-width.ensures),
+)
 
 pub offset_bounds-sheet-at : goal.offset_bounds-sheet-at
-offset_bounds-sheet-at c = omega (arith, (
-    lines-within c.args.sheet.now c.requires.t.0 c.wide.ensures c.wide-width.ensures))
+offset_bounds-sheet-at c = omega (
+  arith,
+  (
+      lines-within c.args.sheet.now c.requires.room.0 c.wide.ensures c.wide-width.ensures),
+)
 
 pub slice_bounds-scale_into-start : goal.slice_bounds-scale_into-start
 slice_bounds-scale_into-start c = (
-    lines-within c.args.sheet.now c.requires.t.0 c.wide.ensures c.wide-width.ensures)
+    lines-within c.args.sheet.now c.requires.room.0 c.wide.ensures c.wide-width.ensures)
 
 pub scale_into-requires : goal.scale_into-requires
 scale_into-requires c =
     let s = c.args.sheet.now in (
-      modulus_positive s c.requires.t.0,
-      c.requires.t_2.0,
-      c.requires.t_2.1,
-      line-room s c.requires.t.0 c.wide.ensures c.wide-width.ensures c.args.q c.args.line.now c.requires.t.2 c.requires.t.1,
+      modulus_positive s c.requires.room.0,
+      c.requires.residues.0,
+      c.requires.residues.1,
+      line-room s c.requires.room.0 c.wide.ensures c.wide-width.ensures c.args.q c.args.line.now c.requires.room.2 c.requires.room.1,
     )
 
 pub bounds-sheet-own : goal.bounds-sheet-own
 bounds-sheet-own c =
-    let under = c.requires.t.1 in
-    let long = whole c.args.sheet.now c.requires.t.0 in search rules
+    let under = c.requires.room.1 in
+    let long = whole c.args.sheet.now c.requires.room.0 in search rules
 
 pub bounds-sheet-2-2 : goal.bounds-sheet-2-2
 bounds-sheet-2-2 c =
-    count-within c.args.sheet.now c.requires.t.0 c.wide.ensures c.wide-width.ensures c.args.q c.args.line.now c.requires.t.2
-    c.requires.t.1 (3 + c.wide-own.result) (ap (λ (k : ℕ). 3 + k) c.wide-own.ensures) c.scale_into.ensures
+    count-within c.args.sheet.now c.requires.room.0 c.wide.ensures c.wide-width.ensures c.args.q c.args.line.now c.requires.room.2
+    c.requires.room.1 (3 + c.wide-own.result) (ap (λ (k : ℕ). 3 + k) c.wide-own.ensures) c.scale_into.ensures
 
 pub returns : goal.returns
 returns c =
-    line-written c.args.sheet.now c.requires.t.0 c.wide.ensures c.wide-width.ensures c.args.q c.args.line.now c.requires.t.2
-    c.requires.t.1 (3 + c.wide-own.result) (ap (λ (k : ℕ). 3 + k) c.wide-own.ensures) c.scale_into.ensures
+    line-written c.args.sheet.now c.requires.room.0 c.wide.ensures c.wide-width.ensures c.args.q c.args.line.now c.requires.room.2
+    c.requires.room.1 (3 + c.wide-own.result) (ap (λ (k : ℕ). 3 + k) c.wide-own.ensures) c.scale_into.ensures

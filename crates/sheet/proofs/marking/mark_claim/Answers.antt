@@ -33,7 +33,7 @@ overflow_add-end c =
     omega (arith, end)
 
 pub overflow_mul-end : goal.overflow_mul-end
-overflow_mul-end c = omega (arith, (
+overflow_mul-end c =
     let s = c.args.sheet.now in
     let ws = c.args.words.now in
     let sees = c.requires.0.sees in
@@ -41,7 +41,7 @@ overflow_mul-end c = omega (arith, (
     let accepted = sym (asked.value (ledger_of s) sees) ∙ c.if-refusal-ne0.false in
     let end = mark_end (ledger_of s) ws accepted (unknowns-few s) (replicate claim_room 0) asked.numbers_after sees c.wide.result
     c.wide.ensures in
-    omega (arith, end)))
+    omega (arith, end)
 
 pub slice_bounds-mark-end : goal.slice_bounds-mark-end
 slice_bounds-mark-end c =
@@ -81,5 +81,8 @@ returns c =
     let sees = c.requires.0.sees in
     let asked = c.mark_refusal-refusal.ensures in
     let accepted = sym (asked.value (ledger_of s) sees) ∙ c.if-refusal-ne0.false in
-    let mark = c.mark-mark in record { value = marked_as (ledger_of s) ws accepted (unknowns-few s) (replicate claim_room 0) asked.numbers_after sees c.wide.result
-          c.wide.ensures (reads-allowed s (mark-opened (ledger_of s) ws accepted)) _ (c.requires.0.equations (mark-opened (ledger_of s) ws accepted)) mark.result mark.ensures.value; ready = mark.ensures.ready }
+    let mark = c.mark-mark in record {
+      value = marked_as (ledger_of s) ws accepted (unknowns-few s) (replicate claim_room 0) asked.numbers_after sees c.wide.result
+          c.wide.ensures (reads-allowed s (mark-opened (ledger_of s) ws accepted)) _ (c.requires.0.equations (mark-opened (ledger_of s) ws accepted)) mark.result mark.ensures.value;
+      ready = mark.ensures.ready;
+    }

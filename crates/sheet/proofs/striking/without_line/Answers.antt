@@ -28,16 +28,25 @@ slice_bounds-move_up-count c =
     place-within c.args.sheet.now c.requires.0 c.wide.ensures c.wide-width.ensures c.args.index c.requires.1
 
 pub overflow_mul-front : goal.overflow_mul-front
-overflow_mul-front c = omega (arith, (
-    place-within c.args.sheet.now c.requires.0 c.wide.ensures c.wide-width.ensures c.args.index c.requires.1))
+overflow_mul-front c = omega (
+  arith,
+  (
+      place-within c.args.sheet.now c.requires.0 c.wide.ensures c.wide-width.ensures c.args.index c.requires.1),
+)
 
 pub overflow_add-at : goal.overflow_add-at
-overflow_add-at c = omega (arith, (
-    place-within c.args.sheet.now c.requires.0 c.wide.ensures c.wide-width.ensures c.args.index c.requires.1))
+overflow_add-at c = omega (
+  arith,
+  (
+      place-within c.args.sheet.now c.requires.0 c.wide.ensures c.wide-width.ensures c.args.index c.requires.1),
+)
 
 pub offset_bounds-sheet-at : goal.offset_bounds-sheet-at
-offset_bounds-sheet-at c = omega (arith, (
-    place-within c.args.sheet.now c.requires.0 c.wide.ensures c.wide-width.ensures c.args.index c.requires.1))
+offset_bounds-sheet-at c = omega (
+  arith,
+  (
+      place-within c.args.sheet.now c.requires.0 c.wide.ensures c.wide-width.ensures c.args.index c.requires.1),
+)
 
 pub slice_bounds-move_up-start : goal.slice_bounds-move_up-start
 slice_bounds-move_up-start c = (
@@ -48,8 +57,11 @@ overflow_sub-filled-2 c =
     line-behind c.args.sheet.now c.requires.0 c.wide.ensures c.wide-width.ensures c.args.index c.requires.1
 
 pub overflow_sub-filled : goal.overflow_sub-filled
-overflow_sub-filled c = omega (arith, (
-    line-behind c.args.sheet.now c.requires.0 c.wide.ensures c.wide-width.ensures c.args.index c.requires.1))
+overflow_sub-filled c = omega (
+  arith,
+  (
+      line-behind c.args.sheet.now c.requires.0 c.wide.ensures c.wide-width.ensures c.args.index c.requires.1),
+)
 
 pub move_up-requires : goal.move_up-requires
 move_up-requires c =
@@ -70,14 +82,14 @@ slice_bounds-move_up-count-2 c =
     )
 
 pub offset_bounds-sheet-own : goal.offset_bounds-sheet-own
-offset_bounds-sheet-own c = omega (arith, (
+offset_bounds-sheet-own c =
     let s = c.args.sheet.now in
     omega (
       arith,
       c.requires.1,
       held_small s c.requires.0,
       between_long s c.requires.0 c.wide.ensures c.wide-width.ensures c.args.index c.requires.1 c.move_up.ensures,
-    )))
+    )
 
 pub slice_bounds-move_up-start-2 : goal.slice_bounds-move_up-start-2
 slice_bounds-move_up-start-2 c = (

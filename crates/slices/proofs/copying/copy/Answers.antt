@@ -1,7 +1,6 @@
 -- `copying::copy` meets its contract. The invariant: the first i numbers are copied, those behind them as they were. The
 -- measure is what is left.
 use mathlib.Core.Path.{refl}
-use Prim.Native.Nat.{◌-◌}
 use native.Mathlib.Omega.{arith}
 use Rattle.slices.proofs.Copied.{copied_none, copied_more, copied_all}
 use Rattle.slices.proofs.copying.copy.Goals as goal

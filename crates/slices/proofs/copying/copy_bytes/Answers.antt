@@ -1,7 +1,6 @@
 -- `copying::copy_bytes` meets its contract, as `copying::copy` does. A byte's place is its index, so that no product of place
 -- and width has to fit.
 use mathlib.Core.Path.{refl}
-use Prim.Native.Nat.{◌-◌}
 use native.Mathlib.Omega.{arith}
 use Rattle.slices.proofs.Copied.{copied_none, copied_more, copied_all}
 use Rattle.slices.proofs.copying.copy_bytes.Goals as goal

@@ -1,7 +1,7 @@
 -- `spanning::apart` meets its contract. The invariant: the last place apart is the last one of the first j. The measure
 -- is j.
 use mathlib.Core.Path.{◌≡◌}
-use Prim.Native.Nat.{◌+◌, ◌-◌, ◌≤◌}
+use Prim.Native.Nat.{◌+◌, ◌≤◌}
 use Rattle.elimination.specs.Missed.{apart, apart_for}
 use Rattle.tableau.specs.Packed.{rows}
 use Rattle.system.proofs.spanning.apart.Given as goal

@@ -1,7 +1,6 @@
 -- `filling::turn` meets its contract. The invariant: the last i entries are the first i of x, turned round. The measure is
 -- what is left.
 use mathlib.Core.Path.{refl}
-use Prim.Native.Nat.{◌-◌}
 use native.Mathlib.Omega.{arith}
 use lib.ListN.{length, length-set}
 use borrow.Author.Rules.{rules}

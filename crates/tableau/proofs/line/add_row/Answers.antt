@@ -1,7 +1,7 @@
 -- `line::add_row` meets its contract. The invariant: the first i entries are sums, the others as they were. The measure is what
 -- is left.
 use mathlib.Core.Path.{refl, sym, ap₂, ◌∙◌}
-use Prim.Native.Nat.{ℕ, ◌+◌, ◌-◌, ◌%◌}
+use Prim.Native.Nat.{ℕ, ◌+◌, ◌%◌}
 use native.Mathlib.Nat.{one-mul}
 use native.Mathlib.Omega.{arith}
 use lib.ListN.{get_or, length-set}

@@ -1,6 +1,5 @@
 -- `line::combine_both` meets its contract. The invariant: the first i entries of both are combined, the others as they
 -- were. The measure is what is left.
-use Prim.Native.Nat.{◌-◌}
 use native.Mathlib.Omega.{arith}
 use borrow.Author.Rules.{rules}
 use Rattle.tableau.proofs.Combined.{both_start, both_below, both_next, both_end}

@@ -1,7 +1,7 @@
 -- `line::reduce` meets its contract. The invariant: the first i entries are combined, the others as they were. The measure
 -- is what is left.
 use mathlib.Core.Path.{refl}
-use Prim.Native.Nat.{◌-◌, ◌%◌}
+use Prim.Native.Nat.{◌%◌}
 use native.Mathlib.Omega.{arith}
 use lib.ListN.{get_or, length-set}
 use borrow.Author.Rules.{rules}

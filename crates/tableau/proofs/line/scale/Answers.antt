@@ -1,7 +1,6 @@
 -- `line::scale` meets its contract. The invariant: the first i entries are multiples, the others as they were. The measure
 -- is what is left.
 use mathlib.Core.Path.{refl}
-use Prim.Native.Nat.{◌-◌}
 use native.Mathlib.Omega.{arith}
 use lib.ListN.{get_or, length-set}
 use borrow.Author.Rules.{rules}

@@ -1,7 +1,7 @@
 -- `products::narrow_sum` meets its contract. The invariant: it is the sum of the first i products, and each of these is below 2^48. The
 -- measure is what is left.
 use mathlib.Core.Path.{ap, ◌∙◌}
-use Prim.Native.Nat.{ℕ, ◌-◌, ◌%◌}
+use Prim.Native.Nat.{ℕ, ◌%◌}
 use native.Mathlib.Omega.{arith}
 use Rattle.equations.proofs.Vectors.{below_at}
 use Rattle.tableau.proofs.Sums.{summed_start, summed_next, summed_end, small_product}

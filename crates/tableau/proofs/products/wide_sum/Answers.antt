@@ -1,7 +1,7 @@
 -- `products::wide_sum` meets its contract. The invariant: the two sums make the sum of the first i products, and each is at most
 -- i · (2^32 - 1). The measure is what is left.
 use mathlib.Core.Path.{ap, ◌∙◌}
-use Prim.Native.Nat.{ℕ, ◌-◌, ◌/◌, ◌%◌}
+use Prim.Native.Nat.{ℕ, ◌/◌, ◌%◌}
 use native.Mathlib.Omega.{arith}
 use lib.ListN.{length}
 use Rattle.tableau.proofs.Sums.{halves_start, halves_next, halves_end, high_fits}

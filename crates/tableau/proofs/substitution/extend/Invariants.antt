@@ -1,7 +1,7 @@
 -- `substitution::extend` meets its contract. The invariant: the entries from i on are those of the substitution, and the rows in
 -- front of `at` are still to be looked at. The measure is i.
 use mathlib.Core.Path.{◌≡◌}
-use Prim.Native.Nat.{◌+◌, ◌-◌}
+use Prim.Native.Nat.{◌+◌}
 use lib.ListN.{length}
 use Rattle.tableau.proofs.Extension.{Extended}
 use Rattle.tableau.proofs.substitution.extend.Given as goal

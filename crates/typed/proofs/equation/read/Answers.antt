@@ -24,7 +24,10 @@ returns c =
     then_asked inside 13 tt (is_linear text)
     (λ yes. c.both-linear.ensures
     ∙ linear_is x.m x.n s.result (typed_of text) s.ensures yes.0)
-    c.ask.ensures in record { refusal_value = linear.is; line_value = λ none.
+    c.ask.ensures in record {
+      refusal_value = linear.is;
+      line_value = λ none.
           c.line_of.ensures
           ∙ line_is x.m x.n s.result (search rules) (typed_of text) s.ensures
-          (all_yes (asks 11 (is_typed text) ∷ asks 12 (is_within x.n text) ∷ asks 13 (is_linear text) ∷ []) linear.numbers (sym linear.is ∙ none)).0 }
+          (all_yes (asks 11 (is_typed text) ∷ asks 12 (is_within x.n text) ∷ asks 13 (is_linear text) ∷ []) linear.numbers (sym linear.is ∙ none)).0;
+    }

@@ -1,9 +1,6 @@
 -- `past_spaces` meets its contract. The invariant: skipping from i on is skipping from j on.
 use mathlib.Core.Path.{sym, ◌∙◌}
-use Prim.Native.Nat.{◌-◌}
 use native.Mathlib.Omega.{arith}
-use lib.ListN.{get_or}
-use borrow.Author.Tests.{eqb-true, eqb-false}
 use Rattle.typed.proofs.Places.{skip_on, skip_end, skip_past}
 use Rattle.typed.proofs.scan.past_spaces.Goals as goal
 
@@ -14,14 +11,17 @@ loop-j-preserved c =
       omega arith,
       omega arith,
       l.invariant.2 ∙ skip_on a.text.now l.j (omega arith)
-          (eqb-true (get_or a.text.now l.j 0) 32 c.if-text-j-eq32.true-raw),
+          c.if-text-j-eq32.true,
     )
 
 pub returns-else-text-j-eq32 : goal.returns-else-text-j-eq32
 returns-else-text-j-eq32 c =
     let a = c.args in
-    let l = c.loop-j in record { lower_bound = (omega arith, omega arith); text_value = sym (l.invariant.2 ∙ skip_end a.text.now l.j (omega arith)
-          (eqb-false (get_or a.text.now l.j 0) 32 c.if-text-j-eq32.false-raw)) }
+    let l = c.loop-j in record {
+      lower_bound = (omega arith, omega arith);
+      text_value = sym (l.invariant.2 ∙ skip_end a.text.now l.j (omega arith)
+          c.if-text-j-eq32.false);
+    }
 
 pub returns-after-loop-j : goal.returns-after-loop-j
 returns-after-loop-j c =

@@ -1,6 +1,6 @@
 -- `kinds::run_of` meets its contract. The invariant: the first i kinds are the one, so that all are if those behind them are. The measure is what is left.
 use mathlib.Core.Path.{◌≡◌, sym, ap, ◌∙◌}
-use Prim.Native.Nat.{ℕ, ◌-◌}
+use Prim.Native.Nat.{ℕ}
 use native.Mathlib.Omega.{arith}
 use borrow.Author.Rules.{rules}
 use lib.ListN.{length, drop, replicate, length-replicate}

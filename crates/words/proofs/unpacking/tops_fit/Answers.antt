@@ -1,6 +1,5 @@
 -- `unpacking::tops_fit` meets its contract. The invariant: whether the words from a place on fit is whether all do. The measure is the memory left.
 use mathlib.Core.Path.{refl, sym, ap, ◌∙◌}
-use Prim.Native.Nat.{◌-◌}
 use native.Mathlib.Omega.{arith}
 use Rattle.words.proofs.Words.{kind_of}
 use Rattle.words.proofs.Walked.{place-fits, place_some, fit_on, fit_stop, fit_end}

@@ -1,7 +1,6 @@
 -- `unpacking::unpack_into` meets its contract. The invariant: the first i kinds and the first i numbers are written, behind them both slices are as they were,
 -- and the first i words lie before `at`. The measure is the room left.
 use mathlib.Core.Path.{sym, ap, ◌∙◌}
-use Prim.Native.Nat.{◌-◌}
 use native.Mathlib.Omega.{arith}
 use lib.ListN.{length}
 use Rattle.words.proofs.Words.{kind_of, number_of}
