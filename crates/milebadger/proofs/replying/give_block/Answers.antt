@@ -27,9 +27,6 @@ copy-requires c =
     let stored = set at-start.out.now 0 at-start.head in
     omega (arith, lent_length 1 stored, length-set at-start.out.now 0 at-start.head)
 
-pub shape_of-out : goal.shape_of-out
-shape_of-out c = c.out-1.given.1 ∙ simp length-set
-
 pub returns : goal.returns
 returns c =
     let at-start = c.args in
