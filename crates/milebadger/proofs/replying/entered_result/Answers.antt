@@ -1,11 +1,8 @@
 -- `replying::entered_result` meets its contract, case by case.
 use mathlib.Core.Path.{◌∙◌}
-use Prim.Native.Nat.{◌≤◌}
 use native.Mathlib.Omega.{arith}
 use mir.Syntax.{w64}
 use mir.ValLaws.{to_z_pos}
-use Rattle.sheet.specs.declared.Entered.TheVariants.{Holds}
-use Rattle.sheet.specs.View.{held_by}
 use Rattle.milebadger.specs.Calls.{entered_result}
 use Rattle.milebadger.proofs.Signed.{handed_on}
 use Rattle.milebadger.proofs.replying.entered_result.Goals as goal

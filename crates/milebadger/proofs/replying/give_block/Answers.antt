@@ -1,6 +1,5 @@
 -- `give_block` meets its contract: `copy` writes into the part behind the head.
 use mathlib.Core.List.{◌∷◌}
-use mathlib.Core.Path.{◌∙◌}
 use Prim.Native.Nat.{◌+◌}
 use native.Mathlib.Omega.{arith}
 use lib.ListN.{length, set, length-set}
