@@ -1,11 +1,10 @@
 -- `answering::block_lines` meets its contract: one line of multipliers, or the starting vector's line and those of the steps in
 -- the part behind it.
-use mathlib.Core.Path.{sym, ap, ◌∙◌}
+use mathlib.Core.Path.{ap, ◌∙◌}
 use mathlib.Core.List.{List}
 use Prim.Native.Nat.{ℕ}
 use native.Mathlib.Omega.{arith}
 use lib.ListN.{length, length-take}
-use lib.Seq.{length-take-le}
 use Rattle.slices.specs.Over.{over}
 use Rattle.slices.proofs.Parts.{lent_length}
 use Rattle.tape.proofs.Steps.{head_fits, block_none, block-length, block_written}

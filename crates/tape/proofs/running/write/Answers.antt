@@ -10,17 +10,7 @@ use Rattle.slices.proofs.Over.{over-fits}
 use Rattle.tape.specs.Output.{left_over_line}
 use Rattle.tape.specs.Reader.{lines_on, first_on}
 use Rattle.tape.proofs.Runs.{step-bytes, step-written, step_fits}
-use Rattle.tape.proofs.Written.{
-  copied,
-  Written,
-  written_none,
-  written_more,
-  written_all,
-  room-behind,
-  room-step,
-  room-last,
-  taken_fits,
-}
+use Rattle.tape.proofs.Written.{copied, written_none, written_more, written_all, room-behind, room-step, room-last, taken_fits}
 use Rattle.tape.proofs.running.write.Goals as goal
 
 pub loop-rest-init : goal.loop-rest-init

@@ -1,5 +1,4 @@
 -- `text::spaced_number` meets its contract: `decimal_into` writes into the part behind the space.
-use mathlib.Core.Path.{◌∙◌}
 use native.Mathlib.Omega.{arith}
 use lib.ListN.{set, length-set}
 use Rattle.slices.proofs.Parts.{lent_length}
