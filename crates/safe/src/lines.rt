@@ -2,7 +2,7 @@
 ghost use Rattle.std.specs.Prelude.{◌≡◌, ◌+◌, ◌*◌, ◌%◌, ◌<◌, length};
 ghost use Rattle.residue.specs.Negative.{negative};
 ghost use Rattle.safe.specs.Model.Lines.{line_of, lines_from};
-ghost use Rattle.safe.specs.Model.Lines.{coefficient as coefficientOf};
+ghost use Rattle.safe.specs.Model.Lines.{coefficient};
 
 use residue::division::divide_wide;
 use residue::modular::negate;
@@ -11,7 +11,7 @@ use residue::modular::negate;
 // remainder by the number of columns.
 fn coefficient(columns: usize, i: usize, p: usize) -> u32
     requires { 0 < columns }
-    ensures { result ≡ coefficientOf columns i p }
+    ensures { result ≡ coefficient columns i p }
 {
     let lock = divide_wide(i as u64, columns as u64);
     let turn = divide_wide(p as u64, columns as u64);

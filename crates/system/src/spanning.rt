@@ -1,7 +1,7 @@
 // What two bases say of a claim: one of the equations, one of the claimed steps.
 ghost use Rattle.std.specs.Prelude.{◌≡◌, ◌+◌, ◌*◌, ◌<◌, ◌≤◌, length, replicate, eqb};
 ghost use Rattle.equations.specs.Vectors.{Below};
-ghost use Rattle.elimination.specs.Basis.{basis as basisOf};
+ghost use Rattle.elimination.specs.Basis.{basis as basis_of};
 ghost use Rattle.elimination.specs.Missed.{apart};
 ghost use Rattle.tableau.specs.Packed.{rows, triangle};
 ghost use Rattle.system.specs.Claims.{vectors_of, claim_of, Claimed};
@@ -28,7 +28,7 @@ pub(crate) fn misses_none(m: u32, n: usize, equations: &[u32], claim: &[u32]) ->
 pub(crate) fn missing(m: u32, n: usize, equations: &[u32], steps: &[u32]) -> usize
     requires { (0 < m) × (0 < n) × (n ≤ 16) × (length equations.now ≡ triangle (n + 1) (n + 1)) × Below m steps.now }
     ensures { result ≡ apart m n (rows (n + 1) (n + 1) equations.now)
-        (basisOf m n 0 (vectors_of n steps.now)) }
+        (basis_of m n 0 (vectors_of n steps.now)) }
 {
     let mut rows = [0u32; BASIS];
     let size = packed_size(n, n);
@@ -39,7 +39,7 @@ pub(crate) fn missing(m: u32, n: usize, equations: &[u32], steps: &[u32]) -> usi
 // The basis of the steps, as lines of n columns: a step is as long as a line in n - 1 unknowns.
 fn span(basis: &mut [u32], steps: &[u32], m: u32, n: usize)
     requires { (0 < m) × (0 < n) × (n ≤ 16) × (basis.old ≡ replicate (triangle n n) 0) × Below m steps.now }
-    ensures { rows n n basis.new ≡ basisOf m n 0 (vectors_of n steps.now) }
+    ensures { rows n n basis.new ≡ basis_of m n 0 (vectors_of n steps.now) }
 {
     fill(basis, steps, m, n - 1, 0, true);
 }

@@ -3,7 +3,7 @@ ghost use Rattle.std.specs.Prelude.{◌≡◌, ◌+◌, ◌<◌, ◌≤◌, leng
 ghost use Rattle.residue.specs.Inverse.{inverse_of};
 ghost use Rattle.equations.specs.Vectors.{Below};
 ghost use Rattle.elimination.specs.Basis.{empty, insert};
-ghost use Rattle.elimination.specs.Basis.{basis as basisOf};
+ghost use Rattle.elimination.specs.Basis.{basis as basis_of};
 ghost use Rattle.elimination.specs.Tableau.{tableau};
 ghost use Rattle.tableau.specs.Packed.{rows, triangle, Kept};
 ghost use Rattle.tableau.specs.Lines.{Loadable, line_at, lines_of};
@@ -74,7 +74,7 @@ pub fn fill(basis: &mut [u32], numbers: &[u32], m: u32, n: usize, k: usize, plai
     requires loadable { Loadable plain m k × (n ≤ 16) × (k ≤ 16) }
     requires basis_value { (basis.old ≡ replicate (triangle (n + 1) (n + 1 + k)) 0) × Below m numbers.now }
     ensures basis_after { rows (n + 1) (n + 1 + k) basis.new
-        ≡ basisOf m (n + 1) k (lines_of plain m n k 0 numbers.now) }
+        ≡ basis_of m (n + 1) k (lines_of plain m n k 0 numbers.now) }
     ensures kept { Kept m (rows (n + 1) (n + 1 + k) basis.new) }
 {
     set_pivots(basis, m, n + 1, k);

@@ -3,7 +3,7 @@
 ghost use Rattle.std.specs.Prelude.{◌≡◌, true, ◌<◌, min, length, take, drop};
 ghost use Rattle.slices.specs.Over.{over};
 ghost use Rattle.words.specs.Words.{word_of, takes_top, joined, words_in, tops_fit, kinds_of, numbers_of};
-ghost use Rattle.words.specs.Words.{carries as carriesTop};
+ghost use Rattle.words.specs.Words.{carries};
 ghost use Rattle.words.specs.Fronts.{first_word, first_length, front_length};
 
 use crate::kinds::{
@@ -61,7 +61,7 @@ fn takes_top(kind: u32) -> bool
 
 // Whether the first memory word carries the top of the second one's number.
 fn carries(first: u32, second: u32) -> bool
-    ensures { result ≡ carriesTop first second }
+    ensures { result ≡ carries first second }
 {
     let top = unpack(first);
     if top.kind != TOP {
@@ -78,7 +78,7 @@ fn carries(first: u32, second: u32) -> bool
 
 // The word that two memory words are, the first with the top of its number.
 fn join(first: u32, second: u32) -> Word
-    requires { carriesTop first second ≡ true }
+    requires { carries first second ≡ true }
     ensures { result ≡ joined first second }
 {
     let top = unpack(first);

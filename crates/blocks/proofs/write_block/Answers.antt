@@ -77,5 +77,8 @@ pub returns : goal.returns
 returns c =
     let p = c.args in
     let made = c.word in
-    let some : 0 < length p.buffer.now = omega (arith, c.requires.2, block_some p.head p.numbers.now) in record { value = omega (arith, c.write_vectors.ensures.value, solution-length p.head p.numbers.now (omega arith)); buffer_after = solution-written p.head p.numbers.now made.result p.buffer.now some made.ensures (omega arith)
-          c.write_vectors.ensures.out_after }
+    let some : 0 < length p.buffer.now = omega (arith, c.requires.2, block_some p.head p.numbers.now) in record {
+      value = omega (arith, c.write_vectors.ensures.value, solution-length p.head p.numbers.now (omega arith));
+      buffer_after = solution-written p.head p.numbers.now made.result p.buffer.now some made.ensures (omega arith)
+          c.write_vectors.ensures.out_after;
+    }

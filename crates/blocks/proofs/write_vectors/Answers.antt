@@ -62,5 +62,8 @@ pub returns : goal.returns
 returns c =
     let p = c.args in
     let start = c.write-start in
-    let steps = c.write_steps in record { value = omega (arith, start.ensures.value, steps.ensures.value, split_length entry_kind p.n p.numbers.now); out_after = vectors-written entry_kind p.n p.numbers.now start.result p.out.now (sym start.ensures.value) start.ensures.out_after
-          steps.ensures.behind_after }
+    let steps = c.write_steps in record {
+      value = omega (arith, start.ensures.value, steps.ensures.value, split_length entry_kind p.n p.numbers.now);
+      out_after = vectors-written entry_kind p.n p.numbers.now start.result p.out.now (sym start.ensures.value) start.ensures.out_after
+          steps.ensures.behind_after;
+    }

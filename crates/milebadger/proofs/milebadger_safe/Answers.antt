@@ -11,25 +11,18 @@ use Rattle.milebadger.proofs.milebadger_safe.Goals as goal
 pub overflow_cast-result : goal.overflow_cast-result
 overflow_cast-result c =
     let p = c.args in
-    let k = c.turned-1.given in
-    record {
-      sfits =
-          omega (
-            arith,
-            words_few p.m p.rows p.columns p.values.now p.out.now k.0.0
-                (sym c.solve-turned.ensures.value ∙ k.1),
-          );
-    }
+    let few = words_few p.m p.rows p.columns p.values.now p.out.now c.in-Wrote.words (sym c.in-Wrote.ensures.value) in
+    record { sfits = omega arith }
 
 -- the turns
 pub returns-in-Wrote : goal.returns-in-Wrote
 unfolding turned_result
 returns-in-Wrote c =
     let p = c.args in
-    let k = c.turned-1.given in
-    let solved = c.solve-turned.ensures in
-    let few = words_few p.m p.rows p.columns p.values.now p.out.now k.0.0 (sym solved.value ∙ k.1) in
-    record { value = to_z_pos w64 k.0.0 (omega (arith, few)) ∙ rw (← solved.value, k.1); out_after = solved.out_after }
+    let k = c.in-Wrote.words in
+    let solved = c.in-Wrote.ensures in
+    let few = words_few p.m p.rows p.columns p.values.now p.out.now k (sym solved.value) in
+    record { value = to_z_pos w64 k (omega arith) ∙ rw (← solved.value); out_after = solved.out_after }
 
 -- none
 pub returns-in-NoTurns : goal.returns-in-NoTurns

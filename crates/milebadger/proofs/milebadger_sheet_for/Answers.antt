@@ -11,25 +11,18 @@ use Rattle.milebadger.proofs.milebadger_sheet_for.Goals as goal
 pub overflow_cast-result : goal.overflow_cast-result
 overflow_cast-result c =
     let p = c.args in
-    let k = c.made-1.given in
-    record {
-      sfits =
-          omega (
-            arith,
-            lines-few p.m p.n p.claim.now p.out.now k.0.0
-                (sym c.sheet_for-made.ensures.value ∙ k.1),
-          );
-    }
+    let few = lines-few p.m p.n p.claim.now p.out.now c.in-Lines.count (sym c.in-Lines.ensures.value) in
+    record { sfits = omega arith }
 
 -- the equations
 pub returns-in-Lines : goal.returns-in-Lines
 unfolding made_result
 returns-in-Lines c =
     let p = c.args in
-    let k = c.made-1.given in
-    let made = c.sheet_for-made.ensures in
-    let few = lines-few p.m p.n p.claim.now p.out.now k.0.0 (sym made.value ∙ k.1) in
-    record { value = to_z_pos w64 k.0.0 (omega (arith, few)) ∙ rw (← made.value, k.1); out_after = made.out_after }
+    let k = c.in-Lines.count in
+    let made = c.in-Lines.ensures in
+    let few = lines-few p.m p.n p.claim.now p.out.now k (sym made.value) in
+    record { value = to_z_pos w64 k (omega arith) ∙ rw (← made.value); out_after = made.out_after }
 
 -- the refusal
 pub returns-in-Refused : goal.returns-in-Refused

@@ -48,14 +48,14 @@ pub slice_bounds-few-end : goal.slice_bounds-few-end
 slice_bounds-few-end c =
     let p = c.args in
     let solved = c.solve_into-block in
-    written-fits p.m p.n (equations_of p.n p.lines.now) solved.result (replicate 20 0) solved.ensures
+    written-fits p.m p.n (equations_of p.n p.lines.now) solved.result (replicate 20 0) (solved.ensures.value, solved.ensures.numbers_after)
 
 pub slice_bounds-give_block-end : goal.slice_bounds-give_block-end
 slice_bounds-give_block-end c =
     let p = c.args in
     let solved = c.solve_into-block in
     sym (length-take-le solved.result.len solved.new.numbers
-    (written-fits p.m p.n (equations_of p.n p.lines.now) solved.result (replicate 20 0) solved.ensures))
+    (written-fits p.m p.n (equations_of p.n p.lines.now) solved.result (replicate 20 0) (solved.ensures.value, solved.ensures.numbers_after)))
 
 pub returns-then-n-le-FEW : goal.returns-then-n-le-FEW
 returns-then-n-le-FEW c =
@@ -64,7 +64,7 @@ returns-then-n-le-FEW c =
     let none = c.if-number-ne0.false in
     let solved = c.solve_into-block in
     let block = solved.result.head ∷ take solved.result.len solved.new.numbers in
-    let is = written-block p.m p.n (equations_of p.n p.lines.now) solved.result (replicate 20 0) solved.ensures in
+    let is = written-block p.m p.n (equations_of p.n p.lines.now) solved.result (replicate 20 0) (solved.ensures.value, solved.ensures.numbers_after) in
     let given = c.give_block in
     rw (answered p.m p.n p.lines.now asked.result asked.ensures none block is)
     (replied_on given.type_inv given.ensures)
@@ -79,14 +79,14 @@ pub slice_bounds-numbers-end : goal.slice_bounds-numbers-end
 slice_bounds-numbers-end c =
     let p = c.args in
     let solved = c.solve_into-block-2 in
-    written-fits p.m p.n (equations_of p.n p.lines.now) solved.result (replicate 272 0) solved.ensures
+    written-fits p.m p.n (equations_of p.n p.lines.now) solved.result (replicate 272 0) (solved.ensures.value, solved.ensures.numbers_after)
 
 pub slice_bounds-give_block-end-2 : goal.slice_bounds-give_block-end-2
 slice_bounds-give_block-end-2 c =
     let p = c.args in
     let solved = c.solve_into-block-2 in
     sym (length-take-le solved.result.len solved.new.numbers
-    (written-fits p.m p.n (equations_of p.n p.lines.now) solved.result (replicate 272 0) solved.ensures))
+    (written-fits p.m p.n (equations_of p.n p.lines.now) solved.result (replicate 272 0) (solved.ensures.value, solved.ensures.numbers_after)))
 
 pub returns : goal.returns
 returns c =
@@ -95,7 +95,7 @@ returns c =
     let none = c.if-number-ne0.false in
     let solved = c.solve_into-block-2 in
     let block = solved.result.head ∷ take solved.result.len solved.new.numbers in
-    let is = written-block p.m p.n (equations_of p.n p.lines.now) solved.result (replicate 272 0) solved.ensures in
+    let is = written-block p.m p.n (equations_of p.n p.lines.now) solved.result (replicate 272 0) (solved.ensures.value, solved.ensures.numbers_after) in
     let given = c.give_block-2 in
     rw (answered p.m p.n p.lines.now asked.result asked.ensures none block is)
     (replied_on given.type_inv given.ensures)

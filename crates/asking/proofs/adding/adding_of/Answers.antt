@@ -72,7 +72,8 @@ returns c =
     let kinds =
     kinds_seen plain_kind_of equation_room (lent own.result.behind ws) _ u.ensures.kinds_after u.ensures.value
     (replicate seen.unknowns coefficient_kind ++ (right_kind ∷ []))
-    (omega (arith, c.requires.0, equation_kinds seen.unknowns)) in record { refusal_value = (λ l sees.
+    (omega (arith, c.requires.0, equation_kinds seen.unknowns)) in record {
+      refusal_value = (λ l sees.
           let tops = tops_asked nothing-asked ws c.tops_fit.ensures c.ask-tops.ensures in
           let shape =
           then_asked tops 1 tt (is_equation (unknowns_of l) (equation_words (words_in ws)))
@@ -83,9 +84,12 @@ returns c =
           then_asked shape 15 tt (allowed_own (modulus_of l) (own_modulus (modulus_of l) (words_in ws)))
           (λ yes. own.ensures.allowed_value ∙ ap (λ (m : ℕ). allowed_own m (own_modulus m (words_in ws))) sees.modulus)
           c.ask-divides.ensures in
-          room-asked l sees opened divides c.ask-refusal.ensures); modulus_value = (λ none.
-            let before = before-none c.ask-divides.result 5 (ltb seen.held most_equations) (sym c.ask-refusal.ensures ∙ none) in
-            own.ensures.modulus_value
-            ∙ used_own seen.modulus _ own.result.allowed
-            (answer-yes c.ask-shape.result 15 own.result.allowed (omega arith) (sym c.ask-divides.ensures ∙ before))); line_after = λ yes. u.ensures.residues_after
-            ∙ ap (λ (ws : List Word). over (take equation_room (residues_of own.result.modulus ws)) c.args.line.now) words }
+          room-asked l sees opened divides c.ask-refusal.ensures);
+      modulus_value = (λ none.
+          let before = before-none c.ask-divides.result 5 (ltb seen.held most_equations) (sym c.ask-refusal.ensures ∙ none) in
+          own.ensures.modulus_value
+          ∙ used_own seen.modulus _ own.result.allowed
+          (answer-yes c.ask-shape.result 15 own.result.allowed (omega arith) (sym c.ask-divides.ensures ∙ before)));
+      line_after = λ yes. u.ensures.residues_after
+          ∙ ap (λ (ws : List Word). over (take equation_room (residues_of own.result.modulus ws)) c.args.line.now) words;
+    }

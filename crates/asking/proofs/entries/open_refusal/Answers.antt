@@ -42,6 +42,9 @@ returns c =
     let modulus =
     then_asked shape 2 tt (allowed_modulus (number_at (words_in ws) 0))
     (λ yes. c.is_modulus.ensures ∙ ap allowed_modulus (seen 0 (omega arith) (omega (arith, two yes.1.0))))
-    c.ask-modulus.ensures in record { value = (then_asked modulus 3 tt (allowed_unknowns (number_at (words_in ws) 1))
+    c.ask-modulus.ensures in record {
+      value = (then_asked modulus 3 tt (allowed_unknowns (number_at (words_in ws) 1))
           (λ yes. c.are_unknowns.ensures ∙ ap allowed_unknowns (seen 1 (omega arith) (omega (arith, two yes.1.0))))
-          c.ask.ensures).is; numbers_after = u.ensures.numbers_after }
+          c.ask.ensures).is;
+      numbers_after = u.ensures.numbers_after;
+    }

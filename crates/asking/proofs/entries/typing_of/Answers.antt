@@ -20,7 +20,10 @@ read-typing-requires c =
 
 pub returns : goal.returns
 returns c =
-    let x = c.args in record { refusal_value = (λ l sees.
-          typing_asked l x.text.now sees (not-false _ c.if-not-seen.false) c.read-typing.ensures.refusal_value c.ask.ensures); line_value = (λ none.
+    let x = c.args in record {
+      refusal_value = (λ l sees.
+          typing_asked l x.text.now sees (not-false _ c.if-not-seen.false) c.read-typing.ensures.refusal_value c.ask.ensures);
+      line_value = (λ none.
           c.read-typing.ensures.line_value
-          (before-none c.read-typing.result.refusal 5 (ltb x.seen.held most_equations) (sym c.ask.ensures ∙ none))) }
+          (before-none c.read-typing.result.refusal 5 (ltb x.seen.held most_equations) (sym c.ask.ensures ∙ none)));
+    }

@@ -35,7 +35,8 @@ returns c =
     let u = c.unpack_into-count in
     let seen = c.args.seen in
     let ws = c.args.words.now in
-    let claim = claim_seen seen.unknowns c.requires.0 ws _ _ u.ensures.value u.ensures.kinds_after u.ensures.numbers_after in record { value = (λ l sees.
+    let claim = claim_seen seen.unknowns c.requires.0 ws _ _ u.ensures.value u.ensures.kinds_after u.ensures.numbers_after in record {
+      value = (λ l sees.
           let opened = opened-asked sees c.ask-opened.ensures in
           let tops = tops_asked opened ws c.tops_fit.ensures c.ask-tops.ensures in
           let shape =
@@ -48,4 +49,6 @@ returns c =
           c.entries_below-below.ensures
           ∙ ap₂ (λ (m : ℕ) (xs : List ℕ). all_below m (drop 1 xs)) sees.modulus
           (parts_seen number_of claim_room ws _ u.ensures.numbers_after u.ensures.value (omega (arith, few))))
-          c.ask.ensures).is); numbers_after = u.ensures.numbers_after }
+          c.ask.ensures).is);
+      numbers_after = u.ensures.numbers_after;
+    }

@@ -20,5 +20,8 @@ bounds-at-2 c = simp length-set (omega arith)
 pub returns : goal.returns
 returns c =
     let a = c.args in
-    let named = c.named_by-named in record { value = to_z_pos w64 named.result.number (omega arith) ∙ ap pos named.ensures.0; at_after = three_written named.result.step named.result.equation a.written a.at.now c.requires.0
-          ∙ ap (λ (xs : List ℕ). over (xs ++ (a.written ∷ [])) a.at.now) named.ensures.1 }
+    let named = c.named_by-named in record {
+      value = to_z_pos w64 named.result.number (omega arith) ∙ ap pos named.ensures.0;
+      at_after = three_written named.result.step named.result.equation a.written a.at.now c.requires.0
+          ∙ ap (λ (xs : List ℕ). over (xs ++ (a.written ∷ [])) a.at.now) named.ensures.1;
+    }

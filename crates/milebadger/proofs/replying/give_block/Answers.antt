@@ -1,6 +1,5 @@
 -- `give_block` meets its contract: `copy` writes into the part behind the head.
 use mathlib.Core.List.{◌∷◌}
-use mathlib.Core.Path.{◌∙◌}
 use Prim.Native.Nat.{◌+◌}
 use native.Mathlib.Omega.{arith}
 use lib.ListN.{length, set, length-set}
@@ -26,9 +25,6 @@ copy-requires c =
     let at-start = c.args in
     let stored = set at-start.out.now 0 at-start.head in
     omega (arith, lent_length 1 stored, length-set at-start.out.now 0 at-start.head)
-
-pub shape_of-out : goal.shape_of-out
-shape_of-out c = c.out-1.given.1 ∙ simp length-set
 
 pub returns : goal.returns
 returns c =

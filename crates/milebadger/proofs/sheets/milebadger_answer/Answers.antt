@@ -11,19 +11,16 @@ use Rattle.milebadger.proofs.sheets.milebadger_answer.Goals as goal
 pub overflow_cast-result : goal.overflow_cast-result
 overflow_cast-result c =
     let a = c.args in
-    let k = c.answered-1.given in
-    let said = c.answer-answered.ensures in
-    let fits = wrote_few a.sheet.now a.out.now (sym said.value ∙ k.1) in
-    record { sfits = omega (arith, fits) }
+    let fits = wrote_few a.sheet.now a.out.now (sym c.in-Wrote.ensures.value) in
+    record { sfits = omega arith }
 
 pub returns-in-Wrote : goal.returns-in-Wrote
 unfolding answered_result
 returns-in-Wrote c =
     let a = c.args in
-    let k = c.answered-1.given in
-    let said = c.answer-answered.ensures in
-    let fits = wrote_few a.sheet.now a.out.now (sym said.value ∙ k.1) in
-    record { value = to_z_pos w64 k.0.0 (omega (arith, fits)) ∙ rw (← said.value, k.1); out_after = said.buffer_after }
+    let said = c.in-Wrote.ensures in
+    let fits = wrote_few a.sheet.now a.out.now (sym said.value) in
+    record { value = to_z_pos w64 c.in-Wrote.words (omega arith) ∙ rw (← said.value); out_after = said.buffer_after }
 
 pub returns-in-Refused : goal.returns-in-Refused
 unfolding answered_result

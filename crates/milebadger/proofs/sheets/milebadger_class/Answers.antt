@@ -12,19 +12,16 @@ use Rattle.milebadger.proofs.sheets.milebadger_class.Goals as goal
 pub overflow_cast-result : goal.overflow_cast-result
 overflow_cast-result c =
     let a = c.args in
-    let k = c.classed-1.given in
-    let said = c.class-classed.ensures in
-    let few = claims_few (ledger_of a.sheet.now) a.words.now a.marks.now (sym said.value ∙ k.1) in
-    record { sfits = omega (arith, few) }
+    let few = claims_few (ledger_of a.sheet.now) a.words.now a.marks.now (sym c.in-Claims.ensures.value) in
+    record { sfits = omega arith }
 
 pub returns-in-Claims : goal.returns-in-Claims
 unfolding classed_result
 returns-in-Claims c =
     let a = c.args in
-    let k = c.classed-1.given in
-    let said = c.class-classed.ensures in
-    let few = claims_few (ledger_of a.sheet.now) a.words.now a.marks.now (sym said.value ∙ k.1) in
-    record { value = to_z_pos w64 k.0.0 (omega (arith, few)) ∙ rw (← said.value, k.1); marks_after = said.marks_after }
+    let said = c.in-Claims.ensures in
+    let few = claims_few (ledger_of a.sheet.now) a.words.now a.marks.now (sym said.value) in
+    record { value = to_z_pos w64 c.in-Claims.claims (omega arith) ∙ rw (← said.value); marks_after = said.marks_after }
 
 pub returns-in-Refused : goal.returns-in-Refused
 unfolding classed_result

@@ -9,9 +9,9 @@ use Rattle.milebadger.proofs.sheets.milebadger_open.Goals as goal
 pub entered_result-requires : goal.entered_result-requires
 entered_result-requires c =
     let a = c.args in
-    held-few a.sheet.now (opens a.words.now) c.«open».ensures.0
+    held-few a.sheet.now (opens a.words.now) c.open-entered.ensures.value
 
 pub returns : goal.returns
 returns c =
-    let said = c.«open».ensures in
-    record { value = handed_on c.entered_result.type_inv c.entered_result.ensures ∙ ap entered_result said.0; sheet_after = said.1 }
+    let said = c.open-entered.ensures in
+    record { value = handed_on c.entered_result.type_inv c.entered_result.ensures ∙ ap entered_result said.value; sheet_after = said.sheet_after }

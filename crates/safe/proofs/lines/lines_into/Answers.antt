@@ -1,7 +1,7 @@
 -- `lines::lines_into` meets its contract. The invariant: the lines of the first i locks are written, up to `at`, and what is
 -- behind them is as it was. The measure is what is left.
 use mathlib.Core.Path.{refl, ◌∙◌}
-use Prim.Native.Nat.{◌+◌, ◌-◌}
+use Prim.Native.Nat.{◌+◌}
 use native.Mathlib.Omega.{arith}
 use borrow.Author.Rules.{rules}
 use borrow.Rule.Slice.PartMut.{mid_len}

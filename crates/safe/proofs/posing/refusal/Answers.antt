@@ -39,7 +39,10 @@ returns c =
     then_asked tops 1 tt (have_kinds (words_in values) (replicate (p.rows * p.columns) entry_kind))
     (λ yes. c.run_of.ensures
     ∙ kinds_asked p.rows p.columns values _ u.ensures.value yes.1.0 locks.ensures u.ensures.kinds_after)
-    c.ask-shape.ensures in record { value = (then_asked shape 6 tt (all_below p.m (numbers_of (words_in values)))
+    c.ask-shape.ensures in record {
+      value = (then_asked shape 6 tt (all_below p.m (numbers_of (words_in values)))
           (λ yes. c.all_below.ensures
           ∙ numbers_asked p.rows p.columns values _ u.ensures.value yes.1.0 p.m yes.1.1.1.0 u.ensures.numbers_after)
-          c.ask.ensures).is; numbers_after = u.ensures.numbers_after }
+          c.ask.ensures).is;
+      numbers_after = u.ensures.numbers_after;
+    }

@@ -11,7 +11,7 @@ use Rattle.equations.specs.Equation.{Equation}
 use Rattle.system.specs.Claims.{claim_of}
 use Rattle.system.specs.Wanted.{wanted_of}
 use Rattle.setting.specs.declared.Made.TheVariants.{Lines, Refused}
-use Rattle.setting.specs.Calls.{sheet_room, sheet_memory, made}
+use Rattle.setting.specs.Calls.{sheet_room, sheet_memory}
 use Rattle.setting.proofs.Wantable.{wantable_room, made-fits, made-room, made-read}
 use Rattle.setting.proofs.making.make.Goals as goal
 

@@ -1,6 +1,6 @@
 -- `making::write_lines` meets its contract. The invariant: the words of the rows that are off stand in front, and `rest` has the others. The
 -- measure is what is left.
-use mathlib.Core.Path.{refl, sym, ap, ◌∙◌}
+use mathlib.Core.Path.{refl, sym, ap}
 use Prim.Native.Nat.{ℕ, ◌+◌}
 use native.Mathlib.Omega.{arith}
 use lib.ListN.{take}
@@ -44,14 +44,14 @@ slice_bounds-write_line-count c =
     omega (arith, room)
 
 pub slice_bounds-write_line-start : goal.slice_bounds-write_line-start
-slice_bounds-write_line-start c = (
+slice_bounds-write_line-start c =
     let a = c.args in
     let l = c.loop-rest in
     let rest = l.rest.now in
     let room =
     poured_room (rows_memory a.n) a.lines.now a.out.now rest l.at l.out l.invariant.1 c.requires.1
     (equation_memory (equation_at a.n (take (a.n + 1) rest))) (lent (a.n + 1) rest) (rows_next a.n rest (omega arith)) in
-    omega (arith, room))
+    omega (arith, room)
 
 pub write_line-at-requires : goal.write_line-at-requires
 write_line-at-requires c =
@@ -80,7 +80,7 @@ loop-rest-preserved c =
     let l = c.loop-rest in
     let rest = l.rest.now in
     let line = c.write_line-at in (
-      c.out-1.given.1 ∙ l.invariant.0,
+      omega arith,
       poured_more (rows_memory a.n) a.lines.now a.out.now rest l.at l.out l.invariant.1 c.requires.1
           (equation_memory (equation_at a.n (take (a.n + 1) rest))) (lent (a.n + 1) rest) (rows_next a.n rest (omega arith))
           (l.at + line.result) (ap (λ (k : ℕ). l.at + k) line.ensures.value) line.ensures.out_after,

@@ -40,5 +40,8 @@ returns c =
     let opening =
     then_asked modulus 3 tt (allowed_unknowns a.n) (λ yes. c.are_unknowns.ensures)
     c.ask-opening.ensures in
-    let marked = c.mark_refusal in record { value = marked.ensures.value (opened a.m a.n []) (record { opened = refl; modulus = refl; unknowns = refl; held = refl })
-          ∙ asked_on opening (claim_questions a.m a.n a.claim.now) c.if-opening-ne0.false; numbers_after = λ none. marked.ensures.numbers_after }
+    let marked = c.mark_refusal in record {
+      value = marked.ensures.value (opened a.m a.n []) (record { opened = refl; modulus = refl; unknowns = refl; held = refl })
+          ∙ asked_on opening (claim_questions a.m a.n a.claim.now) c.if-opening-ne0.false;
+      numbers_after = λ none. marked.ensures.numbers_after;
+    }

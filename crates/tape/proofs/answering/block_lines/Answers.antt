@@ -1,11 +1,10 @@
 -- `answering::block_lines` meets its contract: one line of multipliers, or the starting vector's line and those of the steps in
 -- the part behind it.
-use mathlib.Core.Path.{sym, ap, ◌∙◌}
+use mathlib.Core.Path.{ap, ◌∙◌}
 use mathlib.Core.List.{List}
 use Prim.Native.Nat.{ℕ}
 use native.Mathlib.Omega.{arith}
 use lib.ListN.{length, length-take}
-use lib.Seq.{length-take-le}
 use Rattle.slices.specs.Over.{over}
 use Rattle.slices.proofs.Parts.{lent_length}
 use Rattle.tape.proofs.Steps.{head_fits, block_none, block-length, block_written}
@@ -14,7 +13,11 @@ use Rattle.tape.proofs.answering.block_lines.Goals as goal
 pub returns-then-head-eq0 : goal.returns-then-head-eq0
 returns-then-head-eq0 c =
     let line = c.line in
-    let is = block_none c.args.n c.args.head c.args.numbers.now (omega arith) in record { value = line.ensures.value.0 ∙ ap length is; out_after = line.ensures.out_after ∙ ap (λ (lines : List ℕ). over lines c.args.out.now) is }
+    let is = block_none c.args.n c.args.head c.args.numbers.now (omega arith) in
+    record {
+      value = line.ensures.value.0 ∙ ap length is;
+      out_after = line.ensures.out_after ∙ ap (λ (lines : List ℕ). over lines c.args.out.now) is;
+    }
 
 pub line-from-requires : goal.line-from-requires
 line-from-requires c =
@@ -69,12 +72,9 @@ pub returns : goal.returns
 returns c =
     let a = c.args in
     let line = c.line-from in
-    let steps = c.step_lines in record { value = block-length a.n a.head a.numbers.now a.out.now (λ e. omega arith) line.ensures.value.0 steps.ensures.value.0; out_after = block_written a.n a.head a.numbers.now a.out.now (λ e. omega arith) line.result line.ensures.value.0
-          line.ensures.out_after steps.ensures.out_after }
-
--- SKIPPED
--- | slice-aggregate-line-3 : tie.Need-slice-aggregate-line-3
--- | slice-aggregate-line-3 c =
--- |     let z = c.before.before.before.before.before in
--- |     let fits = head_fits z.args.head z.args.n (length z.args.numbers.now) (λ e. omega arith) z.requires.0.vectors in
--- |     sym (length-take-le z.args.n z.args.numbers.now (omega (arith, fits)))
+    let steps = c.step_lines in
+    record {
+      value = block-length a.n a.head a.numbers.now a.out.now (λ e. omega arith) line.ensures.value.0 steps.ensures.value.0;
+      out_after = block_written a.n a.head a.numbers.now a.out.now (λ e. omega arith) line.result line.ensures.value.0
+          line.ensures.out_after steps.ensures.out_after;
+    }

@@ -11,8 +11,9 @@ use Rattle.tape.proofs.answering.step_lines.Given as goal
 
 abbrev pub invariant-loop-i : goal.invariant-loop-i
 invariant-loop-i l =
-    (i ≤ l.count) × (length l.at ≡ length l.initial.out) × (l.i ≡ length (step_lines (vectors_within i l.n l.vectors))) × (l.i ≤ line_room * i)
-    × (l.at ≡ over (step_lines (vectors_within i l.n l.vectors)) l.initial.out)
+    (l.i ≤ l.count) × (length l.out ≡ length l.initial.out) × (l.at ≡ length (step_lines (vectors_within l.i l.n l.vectors)))
+    × (l.at ≤ line_room * l.i)
+    × (l.out ≡ over (step_lines (vectors_within l.i l.n l.vectors)) l.initial.out)
 
 abbrev pub decreases-loop-i : goal.decreases-loop-i
-decreases-loop-i l = l.count - i
+decreases-loop-i l = l.count - l.i

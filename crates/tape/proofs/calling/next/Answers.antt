@@ -27,5 +27,7 @@ returns c =
     let taken = c.take_words-count.ensures in
     let wants = next_wants l rest first pick c.seen-seen.ensures.sees.unknowns c.call_length-wanted.ensures.0 in
     let front_is = ap (λ (k : ℕ). front k (words_on rest)) wants in
-    let both = stepped s rest (next_call l rest first pick _ (taken.taken_after ∙ front_is)) (ap (λ (k : ℕ). 4 * k) (taken.value.0 ∙ ap length front_is))
-    c.call-written.ensures in record { value = both.0; sheet_after = both.1.0; out_after = both.1.1 }
+    let both =
+    stepped s rest (next_call l rest first pick _ (taken.taken_after ∙ front_is))
+    (ap (λ (k : ℕ). 4 * k) (taken.value.0 ∙ ap length front_is)) c.call-written.ensures in
+    record { value = both.0; sheet_after = both.1.0; out_after = both.1.1 }

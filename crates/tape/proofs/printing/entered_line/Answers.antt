@@ -13,10 +13,10 @@ overflow_cast-numbers c =
 
 pub returns-in-Holds : goal.returns-in-Holds
 returns-in-Holds c =
-    let e = c.inlet both = -Holds.is in
-    (rw e c.line.ensures.value.0, rw e c.line.ensures.out_after) in record { value = both.0; out_after = both.1 }
+    let e = c.in-Holds.is in
+    record { value = rw e c.line.ensures.value.0; out_after = rw e c.line.ensures.out_after }
 
 pub returns-in-Refused : goal.returns-in-Refused
 returns-in-Refused c =
-    let e = c.inlet both = -Refused.is in
-    (rw e c.refused.ensures.value, rw e c.refused.ensures.out_after) in record { value = both.0; out_after = both.1 }
+    let e = c.in-Refused.is in
+    record { value = rw e c.refused.ensures.value; out_after = rw e c.refused.ensures.out_after }

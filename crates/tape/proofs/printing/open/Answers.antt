@@ -8,10 +8,10 @@ returns-in-Holds c =
     let a = c.args in
     let s = a.sheet.now in
     let call = opens a.words.now in
-    let said = c.«open».ensures in
-    let accepted = said_holds s call said.0 c.in-Holds.is in
+    let said = c.open-entered.ensures in
+    let accepted = said_holds s call said.value c.in-Holds.is in
     let line = c.line in
-    told s (enters call) a.out.now said.1 (opened_told s a.words.now accepted said.1 c.seen-seen.ensures.sees)
+    told s (enters call) a.out.now said.sheet_after (opened_told s a.words.now accepted said.sheet_after c.seen-seen.ensures.sees)
     line.ensures.value.0 line.ensures.out_after
 
 pub returns-in-Refused : goal.returns-in-Refused
@@ -19,7 +19,7 @@ returns-in-Refused c =
     let a = c.args in
     let s = a.sheet.now in
     let call = opens a.words.now in
-    let said = c.«open».ensures in
+    let said = c.open-entered.ensures in
     let line = c.refused in
-    told s (enters call) a.out.now said.1 (said_refused s call said.0 c.in-Refused.is) line.ensures.value
+    told s (enters call) a.out.now said.sheet_after (said_refused s call said.value c.in-Refused.is) line.ensures.value
     line.ensures.out_after

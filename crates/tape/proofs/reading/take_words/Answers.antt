@@ -18,4 +18,9 @@ returns c =
     let few = c.smaller-count.ensures in
     let written = c.words.ensures in
     let is = c.front_length.ensures in
-    let count = seen_count a.wanted rest a.taken.now few written is in record { value = (count ∙ sym (front_length_lem a.wanted (words_on rest)), omega (arith, count, front_two a.wanted (words_on rest))); taken_after = seen_front a.wanted rest a.taken.now few written is }
+    let count = seen_count a.wanted rest a.taken.now few written is in
+    record {
+      value =
+          (count ∙ sym (front_length_lem a.wanted (words_on rest)), omega (arith, count, front_two a.wanted (words_on rest)));
+      taken_after = seen_front a.wanted rest a.taken.now few written is;
+    }

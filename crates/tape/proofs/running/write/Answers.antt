@@ -10,27 +10,15 @@ use Rattle.slices.proofs.Over.{over-fits}
 use Rattle.tape.specs.Output.{left_over_line}
 use Rattle.tape.specs.Reader.{lines_on, first_on}
 use Rattle.tape.proofs.Runs.{step-bytes, step-written, step_fits}
-use Rattle.tape.proofs.Written.{
+use Rattle.tape.proofs.Written.{copied, written_none, written_more, written_all, room-behind, room-step, room-last, taken_fits}
 use Rattle.tape.proofs.running.write.Goals as goal
 
-  copied,
-  Written,
-  written_none,
-  written_more,
-  written_all,
-  room-behind,
-  room-step,
-  room-last,
-  taken_fits,
-}
-
 pub loop-rest-init : goal.loop-rest-init
-loop-rest-init c =
-    (
-      search rules,
-      search rules,
-      written_none c.args.tape.now c.args.out.now c.requires.0 c.fresh-fresh.ensures,
-    )
+loop-rest-init c = (
+  search rules,
+  search rules,
+  written_none c.args.tape.now c.args.out.now c.requires.0 c.fresh-fresh.ensures,
+)
 
 pub slice_bounds-rest-count : goal.slice_bounds-rest-count
 slice_bounds-rest-count c =
@@ -40,10 +28,11 @@ slice_bounds-rest-count c =
     (step-bytes l.sheet rest (omega arith) step.ensures.value).1
 
 pub slice_bounds-rest-start : goal.slice_bounds-rest-start
-slice_bounds-rest-start c = (let l = c.loop-rest in
+slice_bounds-rest-start c =
+    let l = c.loop-rest in
     let step = c.next-step in
     let rest = l.rest.now in
-    (step-bytes l.sheet rest (omega arith) step.ensures.value).1)
+    (step-bytes l.sheet rest (omega arith) step.ensures.value).1
 
 pub slice_bounds-told-end : goal.slice_bounds-told-end
 slice_bounds-told-end c =
@@ -66,8 +55,9 @@ slice_bounds-copy_bytes-count c =
     omega (arith, room-behind l.invariant.2 c.requires.1 l.invariant.1)
 
 pub slice_bounds-copy_bytes-start : goal.slice_bounds-copy_bytes-start
-slice_bounds-copy_bytes-start c = (let l = c.loop-rest in
-    omega (arith, room-behind l.invariant.2 c.requires.1 l.invariant.1))
+slice_bounds-copy_bytes-start c =
+    let l = c.loop-rest in
+    omega (arith, room-behind l.invariant.2 c.requires.1 l.invariant.1)
 
 pub copy_bytes-requires : goal.copy_bytes-requires
 copy_bytes-requires c =
@@ -122,8 +112,9 @@ slice_bounds-copy_bytes-count-2 c =
     omega (arith, room-behind l.invariant.2 c.requires.1 l.invariant.1)
 
 pub slice_bounds-copy_bytes-start-2 : goal.slice_bounds-copy_bytes-start-2
-slice_bounds-copy_bytes-start-2 c = (let l = c.loop-rest in
-    omega (arith, room-behind l.invariant.2 c.requires.1 l.invariant.1))
+slice_bounds-copy_bytes-start-2 c =
+    let l = c.loop-rest in
+    omega (arith, room-behind l.invariant.2 c.requires.1 l.invariant.1)
 
 pub copy_bytes-requires-2 : goal.copy_bytes-requires-2
 copy_bytes-requires-2 c =

@@ -2,7 +2,7 @@
 -- measure is the length of the rest.
 use mathlib.Core.Path.{◌≡◌}
 use lib.ListN.{length}
-use Rattle.tape.proofs.Written.{
+use Rattle.tape.proofs.Written.{Written}
 use Rattle.tape.proofs.running.write.Given as goal
 
 abbrev pub invariant-loop-rest : goal.invariant-loop-rest

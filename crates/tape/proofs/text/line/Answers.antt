@@ -17,6 +17,10 @@ returns c =
     let copied = c.copy_bytes in
     let numbers = c.numbers_into-written in
     let name = a.name.now in
-    let ns = a.numbers.now in record { value = (omega (arith, line-length name ns, numbers.ensures.value.0), omega (arith, numbers.ensures.value.1)); out_after = line-written name ns (length name + numbers.result) a.out.now (omega (arith, numbers.ensures.value.0))
+    let ns = a.numbers.now in
+    record {
+      value = (omega (arith, line-length name ns, numbers.ensures.value.0), omega (arith, numbers.ensures.value.1));
+      out_after = line-written name ns (length name + numbers.result) a.out.now (omega (arith, numbers.ensures.value.0))
           (omega (arith, numbers.ensures.value.1))
-          (over-behind (length name) name (spaced ns) a.out.now refl copied.ensures numbers.ensures.out_after) }
+          (over-behind (length name) name (spaced ns) a.out.now refl copied.ensures numbers.ensures.out_after);
+    }

@@ -1,5 +1,4 @@
 -- `text::spaced_number` meets its contract: `decimal_into` writes into the part behind the space.
-use mathlib.Core.Path.{◌∙◌}
 use native.Mathlib.Omega.{arith}
 use lib.ListN.{set, length-set}
 use Rattle.slices.proofs.Parts.{lent_length}
@@ -24,11 +23,12 @@ overflow_add-result c =
     let x = c.args.x in
     omega (arith, c.decimal_into-digits.ensures.value, decimal-most x (omega arith))
 
-pub shape_of-out : goal.shape_of-out
-shape_of-out c = c.out-1.given.1 ∙ simp length-set
-
 pub returns : goal.returns
 returns c =
     let a = c.args in
     let digits = c.decimal_into-digits in
-    let few = decimal-most a.x (omega arith) in record { value = (omega (arith, digits.ensures.value), omega (arith, digits.ensures.value)); out_after = head_then 32 (decimal a.x) a.out.now (omega arith) digits.ensures.out_after }
+    let few = decimal-most a.x (omega arith) in
+    record {
+      value = (omega (arith, digits.ensures.value), omega (arith, digits.ensures.value));
+      out_after = head_then 32 (decimal a.x) a.out.now (omega arith) digits.ensures.out_after;
+    }
