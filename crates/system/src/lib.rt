@@ -2,6 +2,7 @@
 // reasons why they fail or are long, and the equations that are made for a claim.
 #![tactic(auto)]
 
+mod around;
 mod checking;
 pub mod explaining;
 mod finding;

@@ -1,20 +1,13 @@
-// The equations that just the vectors of a claim solve. The vectors g that all its steps are orthogonal to are found as steps of an answer:
-// that to a system whose equations are the claim's own steps. Each g is then an equation g·x = g·c, for the claim's start c.
+// The equations that just the vectors of a claim solve.
 ghost use Rattle.std.specs.Prelude.{◌≡◌, ◌+◌, ◌*◌, ◌<◌, ◌≤◌, length};
 ghost use Rattle.slices.specs.Over.{over};
-ghost use Rattle.equations.specs.Vectors.{Vector, Below};
 ghost use Rattle.equations.specs.Lines.{as_row, as_rows};
 ghost use Rattle.equations.specs.Promises.{constant};
-ghost use Rattle.elimination.specs.Through.{through, lines_through, annihilators};
-ghost use Rattle.system.specs.Claims.{Claimed, claim_of, vectors_of};
-ghost use Rattle.system.specs.Model.Reading.{Laid};
+ghost use Rattle.system.specs.Claims.{Claimed, claim_of};
 ghost use Rattle.system.specs.Wanted.{wanted_of};
 
-use crate::limits::{EQUATIONS, LINE, UNKNOWNS};
-use crate::relating::generators_into;
-use slices::copying::copy;
+use crate::around::lines_around;
 use slices::filling::zeros;
-use tableau::products::sum;
 
 // The equations for a claim, a row of n + 1 numbers each, at the front of lent memory; how many they are. A claim is the entries of a
 // starting vector and of its steps; the empty one claims no solution.
@@ -37,56 +30,4 @@ fn contradiction_into(n: usize, lines: &mut [u32])
 {
     zeros(&mut lines[..n]);
     lines[n] = 1;
-}
-
-// The equations for a start with steps; how many they are.
-fn lines_around(m: u32, n: usize, start: &[u32], steps: &[u32], lines: &mut [u32]) -> usize
-    requires { (1 < m) × (0 < n) × (n ≤ 16) × Vector m n start.now × Below m steps.now × (length steps.now ≤ 16 * n)
-        × (n * (n + 1) ≤ length lines.old) }
-    ensures value { result ≡ length (annihilators m n (vectors_of n steps.now)) }
-    ensures lines_after { lines.new
-        ≡ over (as_rows (lines_through m start.now (annihilators m n (vectors_of n steps.now)))) lines.old }
-{
-    let mut generators = [0u32; UNKNOWNS * UNKNOWNS];
-    let count = annihilators_into(m, n, steps, &mut generators);
-    let end = count * n;
-    through_into(m, n, start, &generators[..end], lines);
-    count
-}
-
-// Generators of the vectors that all of the steps are orthogonal to; how many they are. The equations of the steps go through zero.
-fn annihilators_into(m: u32, n: usize, steps: &[u32], out: &mut [u32]) -> usize
-    requires { (1 < m) × (0 < n) × (n ≤ 16) × Below m steps.now × (length steps.now ≤ 16 * n) × (n * n ≤ length out.old) }
-    ensures { (result ≤ n) × Laid n (annihilators m n (vectors_of n steps.now)) out.old out.new result }
-{
-    let zero = [0u32; UNKNOWNS];
-    let mut level = [0u32; EQUATIONS * LINE];
-    through_into(m, n, &zero[..n], steps, &mut level);
-    let size = steps.len() / n * (n + 1);
-    generators_into(m, n, &level[..size], out)
-}
-
-// An equation for each of the vectors: it goes through the start.
-fn through_into(m: u32, n: usize, start: &[u32], vectors: &[u32], lines: &mut [u32])
-    requires { (0 < m) × (0 < n) × (n ≤ 16) × Vector m n start.now × Below m vectors.now
-        × (length (as_rows (lines_through m start.now (vectors_of n vectors.now))) ≤ length lines.old) }
-    ensures { lines.new
-        ≡ over (as_rows (lines_through m start.now (vectors_of n vectors.now))) lines.old }
-{
-    let mut rest = &vectors[..];
-    let mut at: usize = 0;
-    while n <= rest.len() {
-        line_into(m, n, start, &rest[..n], &mut lines[at..]);
-        rest = &rest[n..];
-        at += n + 1;
-    }
-}
-
-// g·x = g·c, for the start c.
-fn line_into(m: u32, n: usize, start: &[u32], g: &[u32], line: &mut [u32])
-    requires { (0 < m) × (n ≤ 16) × Vector m n start.now × Vector m n g.now × (n + 1 ≤ length line.old) }
-    ensures { line.new ≡ over (as_row (through m start.now g.now)) line.old }
-{
-    copy(g, line);
-    line[n] = sum(g, start, m);
 }

@@ -1,4 +1,4 @@
--- `wanting::annihilators_into` meets its contract: the system of the steps lies in the front of an array, and its answer's steps are read off.
+-- `around::annihilators_into` meets its contract: the system of the steps lies in the front of an array, and its answer's steps are read off.
 use mathlib.Core.Path.{◌≡◌, refl, sym, subst}
 use mathlib.Core.List.{List}
 use Prim.Native.Nat.{ℕ, ◌+◌, ◌*◌, ◌/◌, ◌≤◌}
@@ -12,7 +12,7 @@ use Rattle.system.proofs.Fronts.{lent_zeros}
 use Rattle.system.proofs.Relations.{lines-few}
 use Rattle.system.proofs.Generators.{steps_few}
 use Rattle.system.proofs.Through.{through-length, level-read, level-posed}
-use Rattle.system.proofs.wanting.annihilators_into.Goals as goal
+use Rattle.system.proofs.around.annihilators_into.Goals as goal
 
 -- the front of the array that the start is lent from
 zeros_lent : (n : ℕ) → n ≤ 16 → take n (replicate {A = ℕ} 16 0) ≡ replicate n 0

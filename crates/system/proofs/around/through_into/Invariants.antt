@@ -1,11 +1,11 @@
--- `wanting::through_into` meets its contract. The invariant: what was made of the vectors that are off stands in front, and `rest` has the
+-- `around::through_into` meets its contract. The invariant: what was made of the vectors that are off stands in front, and `rest` has the
 -- others. The measure is what is left.
 use mathlib.Core.Path.{◌≡◌}
 use lib.ListN.{length}
 use Rattle.slices.proofs.Poured.{Poured}
 use Rattle.equations.specs.Vectors.{Below}
 use Rattle.system.proofs.Through.{rows_through}
-use Rattle.system.proofs.wanting.through_into.Given as goal
+use Rattle.system.proofs.around.through_into.Given as goal
 
 abbrev pub invariant-loop-rest : goal.invariant-loop-rest
 invariant-loop-rest l =

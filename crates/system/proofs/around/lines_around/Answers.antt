@@ -1,4 +1,4 @@
--- `wanting::lines_around` meets its contract: the generators that were written are read as vectors again.
+-- `around::lines_around` meets its contract: the generators that were written are read as vectors again.
 use mathlib.Core.Path.{sym}
 use Prim.Native.Nat.{◌*◌}
 use native.Mathlib.Omega.{arith}
@@ -6,7 +6,7 @@ use lib.Seq.{length-take-le}
 use Rattle.system.specs.Claims.{vectors_of}
 use Rattle.system.proofs.Generators.{generators_few}
 use Rattle.system.proofs.Through.{around_below, around_room, around_written}
-use Rattle.system.proofs.wanting.lines_around.Goals as goal
+use Rattle.system.proofs.around.lines_around.Goals as goal
 
 pub annihilators_into-count-requires : goal.annihilators_into-count-requires
 annihilators_into-count-requires c =

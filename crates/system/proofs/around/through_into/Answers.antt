@@ -1,4 +1,4 @@
--- `wanting::through_into` meets its contract. The invariant: what was made of the vectors that are off stands in front, and `rest` has the
+-- `around::through_into` meets its contract. The invariant: what was made of the vectors that are off stands in front, and `rest` has the
 -- others. The measure is what is left.
 use mathlib.Core.Path.{refl, sym, ◌∙◌}
 use Prim.Native.Nat.{◌+◌}
@@ -11,7 +11,7 @@ use Rattle.equations.specs.Lines.{as_row}
 use Rattle.equations.proofs.Vectors.{vector_of, below-take, below-drop}
 use Rattle.elimination.specs.Through.{through}
 use Rattle.system.proofs.Through.{rows_through, through-next, through-none, through-row, through-room}
-use Rattle.system.proofs.wanting.through_into.Goals as goal
+use Rattle.system.proofs.around.through_into.Goals as goal
 
 pub loop-rest-init : goal.loop-rest-init
 loop-rest-init c =

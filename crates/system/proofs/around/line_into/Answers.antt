@@ -1,10 +1,10 @@
--- `wanting::line_into` meets its contract.
+-- `around::line_into` meets its contract.
 use Prim.Native.Nat.{◌%◌}
 use native.Mathlib.Omega.{arith}
 use Rattle.slices.proofs.Over.{over-one}
 use Rattle.equations.specs.Equation.{dot}
 use Rattle.equations.proofs.Vectors.{vector-length, vector-same-length, vector-below}
-use Rattle.system.proofs.wanting.line_into.Goals as goal
+use Rattle.system.proofs.around.line_into.Goals as goal
 
 pub copy-requires : goal.copy-requires
 copy-requires c =
