@@ -1,6 +1,5 @@
 -- `picking::picked` meets its contract: each arm is a line of the table, and the last ones are what is left of the kinds.
-use mathlib.Core.Path.{◌≡◌, sym, ap}
-use mathlib.Core.Logic.{◌⊎◌, inl, inr}
+use mathlib.Core.Path.{sym, ap}
 use native.Mathlib.Omega.{arith}
 use borrow.Author.Rules.{rules}
 use Rattle.tape.specs.FirstCall.{pick_of}
@@ -35,9 +34,3 @@ returns-in_default c =
 
 pub returns-in-0 : goal.returns-in-0
 returns-in-0 c = picks_few c.args.kind (search rules)
-
-pub returns-in-0-2 : goal.returns-in-0-2
-returns-in-0-2 c =
-    let no_add : ((c.args.kind ≡ 3) ⊎ (c.args.kind ≡ 10)) → ⊥ = search rules in
-    picks_none c.args.kind (λ p. omega arith) (λ p. no_add (inl p)) (λ p. omega arith) (λ p. omega arith)
-    (λ p. omega arith) (λ p. no_add (inr p)) (λ p. omega arith) (λ p. omega arith)

@@ -5,9 +5,7 @@ use native.Mathlib.Omega.{arith}
 use borrow.Author.Rules.{rules}
 use lib.ListN.{length}
 use Rattle.slices.proofs.Parts.{lent_length}
-use Rattle.slices.proofs.Over.{over-fits}
 use Rattle.sheet.specs.Record.{Sheet, ledger_of}
-use Rattle.tape.specs.Output.{left_over_line}
 use Rattle.tape.proofs.Remaining.{remaining, lines_remaining, remaining_end}
 use Rattle.tape.proofs.Runs.{step-bytes, step_fits, step_counts}
 use Rattle.tape.proofs.running.count.Goals as goal
@@ -66,13 +64,6 @@ loop-rest-preserved c =
       omega (arith, l.invariant.1),
       omega (arith, l.invariant.2, step-bytes l.sheet rest (omega arith) step.ensures.value, lent_length step.result.used rest),
     )
-
-pub overflow_add-result : goal.overflow_add-result
-overflow_add-result c =
-    let l = c.loop-rest in
-    let last = c.left_over in
-    let size : length last.new.out ≡ 4096 = search rules in
-    omega (arith, l.invariant.2, last.ensures.value, over-fits (left_over_line l.rest.now) l.out last.ensures.out_after)
 
 pub returns : goal.returns
 returns c =

@@ -6,7 +6,6 @@ use lib.ListN.{length}
 use lib.Seq.{length-take-le}
 use borrow.Author.Rules.{rules}
 use Rattle.slices.proofs.Parts.{lent, lent_length}
-use Rattle.slices.proofs.Over.{over-fits}
 use Rattle.tape.specs.Output.{left_over_line}
 use Rattle.tape.specs.Reader.{lines_on, first_on}
 use Rattle.tape.proofs.Runs.{step-bytes, step-written, step_fits}
@@ -92,29 +91,6 @@ loop-rest-preserved c =
           (copied step.result.written (lines_on l.sheet (first_on l.sheet rest)) (lent l.at l.out) l.told
           step.ensures.out_after (step-written l.sheet rest (omega arith) step.ensures.value) c.copy_bytes.ensures),
     )
-
-pub slice_bounds-told-end-2 : goal.slice_bounds-told-end-2
-slice_bounds-told-end-2 c =
-    let l = c.loop-rest in
-    let last = c.left_over-written in
-    omega (arith, last.ensures.value, over-fits (left_over_line l.rest.now) l.told last.ensures.out_after)
-
-pub slice_bounds-copy_bytes-end-2 : goal.slice_bounds-copy_bytes-end-2
-slice_bounds-copy_bytes-end-2 c =
-    let l = c.loop-rest in
-    let last = c.left_over-written in
-    sym (length-take-le last.result last.new.out
-    (omega (arith, last.ensures.value, over-fits (left_over_line l.rest.now) l.told last.ensures.out_after)))
-
-pub slice_bounds-copy_bytes-count-2 : goal.slice_bounds-copy_bytes-count-2
-slice_bounds-copy_bytes-count-2 c =
-    let l = c.loop-rest in
-    omega (arith, room-behind l.invariant.2 c.requires.1 l.invariant.1)
-
-pub slice_bounds-copy_bytes-start-2 : goal.slice_bounds-copy_bytes-start-2
-slice_bounds-copy_bytes-start-2 c =
-    let l = c.loop-rest in
-    omega (arith, room-behind l.invariant.2 c.requires.1 l.invariant.1)
 
 pub copy_bytes-requires-2 : goal.copy_bytes-requires-2
 copy_bytes-requires-2 c =

@@ -28,10 +28,6 @@ pub bounds-out-at : goal.bounds-out-at
 bounds-out-at t c =
     omega (arith, c.decimal_into-at.ensures.value, decimal-length c.args.x (omega arith) c.divide-tens.ensures.0)
 
-pub overflow_add-result : goal.overflow_add-result
-overflow_add-result t c =
-    omega (arith, c.decimal_into-at.ensures.value, decimal-length c.args.x (omega arith) c.divide-tens.ensures.0)
-
 pub returns : goal.returns
 returns t c =
     let d = c.divide-tens in

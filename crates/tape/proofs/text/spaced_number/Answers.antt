@@ -7,21 +7,10 @@ use Rattle.tape.specs.Text.{decimal}
 use Rattle.tape.proofs.Printed.{decimal-most}
 use Rattle.tape.proofs.text.spaced_number.Goals as goal
 
-pub slice_bounds-decimal_into-count : goal.slice_bounds-decimal_into-count
-slice_bounds-decimal_into-count c = simp length-set (omega arith)
-
-pub slice_bounds-decimal_into-start : goal.slice_bounds-decimal_into-start
-slice_bounds-decimal_into-start c = simp length-set (omega arith)
-
 pub decimal_into-digits-requires : goal.decimal_into-digits-requires
 decimal_into-digits-requires c =
     let a = c.args in
     omega (arith, lent_length 1 (set a.out.now 0 32), length-set a.out.now 0 32, decimal-most a.x (omega arith))
-
-pub overflow_add-result : goal.overflow_add-result
-overflow_add-result c =
-    let x = c.args.x in
-    omega (arith, c.decimal_into-digits.ensures.value, decimal-most x (omega arith))
 
 pub returns : goal.returns
 returns c =
