@@ -39,7 +39,7 @@ use Rattle.system.specs.Claims.{claim_of, vectors_of}
 use Rattle.system.specs.Lines.{line_block}
 use Rattle.system.proofs.Lines.{plain-shown}
 use Rattle.system.proofs.Promises.{answered}
-use Rattle.words.specs.Words.{numbers_of_aKind, word, words_in, words_of, modulus_kind, unknowns_kind, coefficient_kind, right_kind, head_kind, entry_kind, multiplier_kind, carries, words_for}
+use Rattle.words.specs.Words.{numbers_of_a_kind, word, words_in, words_of, modulus_kind, unknowns_kind, coefficient_kind, right_kind, head_kind, entry_kind, multiplier_kind, carries, words_for}
 use Rattle.words.proofs.Packed.{written_one}
 use Rattle.ledger.specs.Ledger.{opened}
 use Rattle.ledger.specs.Block.{answer_words, answer_room}
@@ -237,7 +237,7 @@ with_zero_fits x (a ∷ b ∷ c ∷ []) l below e =
     let ks = a ∷ b ∷ c ∷ [] in
     rw e
     (over-whole (word head_kind 0 ∷ words_of multiplier_kind ks) (x ∷ x ∷ x ∷ x ∷ [])
-    (ap suc (written_one multiplier_kind ks (below_mono 6 numbers_of_aKind ks (omega arith) below))))
+    (ap suc (written_one multiplier_kind ks (below_mono 6 numbers_of_a_kind ks (omega arith) below))))
 with_zero_fits x (a ∷ b ∷ c ∷ d ∷ ks) l below e = absurd (omega arith)
 
 -- "Add x=0: none": head 0, with multipliers that serve; so do 0 1 3

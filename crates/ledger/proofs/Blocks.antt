@@ -17,7 +17,7 @@ use lib.Dec.{ltb}
 use lib.ListN.{length}
 use Rattle.equations.specs.Vectors.{Below}
 use Rattle.equations.proofs.Vectors.{below_mono}
-use Rattle.words.specs.Words.{numbers_of_aKind, word, words_of, head_kind, entry_kind, multiplier_kind}
+use Rattle.words.specs.Words.{numbers_of_a_kind, word, words_of, head_kind, entry_kind, multiplier_kind}
 use Rattle.words.proofs.Packed.{written_one, written_two}
 use Rattle.ledger.specs.Block.{block_words, counts_for, block_room}
 
@@ -33,18 +33,18 @@ block_words_some (suc k) xs h = refl
 
 module _ (m : ℕ) where
   pub counts_two : counts_for m ≤ 2
-  counts_two = go (ltb numbers_of_aKind m)
+  counts_two = go (ltb numbers_of_a_kind m)
     where
       go : (b : Bool) → cond b 2 1 ≤ 2
       go true = omega arith
       go false = omega arith
 
   pub written-fits : (kind : ℕ) (xs : List ℕ) → Below m xs → length (words_of kind xs) ≤ length xs * counts_for m
-  written-fits kind xs below = go (ltb numbers_of_aKind m) refl
+  written-fits kind xs below = go (ltb numbers_of_a_kind m) refl
     where
-      go : (b : Bool) → ltb numbers_of_aKind m ≡ b → length (words_of kind xs) ≤ length xs * cond b 2 1
+      go : (b : Bool) → ltb numbers_of_a_kind m ≡ b → length (words_of kind xs) ≤ length xs * cond b 2 1
       go true h = omega (arith, written_two kind xs)
-      go false h = omega (arith, written_one kind xs (below_mono m numbers_of_aKind xs (ltb-false numbers_of_aKind m h) below))
+      go false h = omega (arith, written_one kind xs (below_mono m numbers_of_a_kind xs (ltb-false numbers_of_a_kind m h) below))
 
   pub room-none : (k : ℕ) (ks : List ℕ) → k ≡ 0 → block_room m (k ∷ ks) ≡ 1 + length ks * counts_for m
   room-none k ks h = rw h

@@ -25,7 +25,7 @@ use Rattle.system.specs.Claims.{claim_of}
 use Rattle.system.proofs.Claims.{claim_of_flat}
 use Rattle.words.specs.declared.unpacking.Word.{Word}
 use Rattle.words.specs.Words.{word_of, word, words_in, kinds_of, words_of, have_kinds, head_kind, entry_kind}
-use Rattle.words.specs.Promises.{numbers_of_aWord}
+use Rattle.words.specs.Promises.{numbers_of_a_word}
 use Rattle.words.proofs.Tops.{words_other}
 use Rattle.words.proofs.Words.{kind_of, number_of, word_kind, word_number}
 use Rattle.words.proofs.Packed.{numbered, words_back}
@@ -34,7 +34,7 @@ use Rattle.ledger.specs.Shapes.{number_at, largest_head, is_claim, entries_of, c
 use Rattle.ledger.specs.Block.{answer_words}
 use Rattle.ledger.proofs.Answer.{answer_some}
 
-module _ (h : ℕ) (xs : List ℕ) (below : Below numbers_of_aWord xs) (small : h ≤ largest_head) where
+module _ (h : ℕ) (xs : List ℕ) (below : Below numbers_of_a_word xs) (small : h ≤ largest_head) where
   abbrev written : List ℕ
   written = word head_kind h ∷ words_of entry_kind xs
 
@@ -102,8 +102,8 @@ module _ (m n : ℕ) (pos : 0 < m) (ls : List Line) (moduli : Moduli m ls) (larg
       below-append m c (flatten steps) (vector-below m n c vector)
       (flat_below m n steps vectors)
 
-  numbers : Below numbers_of_aWord entries
-  numbers = below_mono m numbers_of_aWord entries (omega arith) residues
+  numbers : Below numbers_of_a_word entries
+  numbers = below_mono m numbers_of_a_word entries (omega arith) residues
 
   small : n ≤ 16 → suc (length steps) ≤ largest_head
   small unknowns = omega (arith, few m n pos ls moduli)

@@ -1,7 +1,7 @@
 -- The answer block in words. Definitions only.
 use Rattle.std.specs.Prelude.{cond, List, [], ◌∷◌, ℕ, zero, suc, ◌+◌, ◌*◌, ltb, length}
 use Rattle.system.specs.Lines.{line_block}
-use Rattle.words.specs.Words.{numbers_of_aKind, word, words_of, head_kind, entry_kind, multiplier_kind}
+use Rattle.words.specs.Words.{numbers_of_a_kind, word, words_of, head_kind, entry_kind, multiplier_kind}
 use Rattle.ledger.specs.Ledger.{Ledger, unopened, opened}
 
 -- the numbers of a block as words: "Answer block: the same form" as a claim; "Without solution: head 0, then
@@ -21,7 +21,7 @@ longest_memory = 545
 
 -- "For question 8 a multiplier, and an entry that the reason tool shows, counts two words when m is above 2^28."
 abbrev pub counts_for : ℕ → ℕ
-counts_for m = cond (ltb numbers_of_aKind m) 2 1
+counts_for m = cond (ltb numbers_of_a_kind m) 2 1
 
 -- how much room question 8 asks for: that of the block's words, but with each multiplier counted so
 abbrev pub block_room : ℕ → List ℕ → ℕ

@@ -32,7 +32,7 @@ use Rattle.words.specs.declared.unpacking.Word.{Word}
 use Rattle.words.specs.Words.{coefficient_kind, right_kind, words_in, words_of}
 use Rattle.words.specs.Fronts.{front_length, front, behind}
 use Rattle.words.specs.Signs.{plain_kinds_of, residues_of}
-use Rattle.words.specs.Promises.{numbers_of_aWord}
+use Rattle.words.specs.Promises.{numbers_of_a_word}
 use Rattle.words.proofs.Packed.{numbered, words_back_then, words_back, front_back}
 use Rattle.words.proofs.Fronts.{front-length-zero}
 use Rattle.words.proofs.Minus.{residues-plain}
@@ -48,9 +48,9 @@ use Rattle.setting.specs.Promises.{add_calls, AllAccepted, PartsIn}
 
 -- ---- where an equation ends
 
-module _ (e : Equation) (fits : Below numbers_of_aWord (as_row e)) (rest : List ℕ) where
-  parts : Below numbers_of_aWord e.coefficients × Below numbers_of_aWord (e.right ∷ [])
-  parts = below_parts numbers_of_aWord e.coefficients (e.right ∷ []) fits
+module _ (e : Equation) (fits : Below numbers_of_a_word (as_row e)) (rest : List ℕ) where
+  parts : Below numbers_of_a_word e.coefficients × Below numbers_of_a_word (e.right ∷ [])
+  parts = below_parts numbers_of_a_word e.coefficients (e.right ∷ []) fits
 
   long : front_length (length e.coefficients + 1) (equation_memory e ++ rest) ≡ length (equation_memory e)
   long =
@@ -74,10 +74,10 @@ module _ (e : Equation) (fits : Below numbers_of_aWord (as_row e)) (rest : List 
       drop_at (equation_memory e) rest (front_length (n + 1) (equation_memory e ++ rest))
       (sym (ap (λ (k : ℕ). front_length (k + 1) (equation_memory e ++ rest)) (sym shaped) ∙ long))
 
-pub memory_parts : (n : ℕ) (es : List Equation) → Shaped n es → Below numbers_of_aWord (as_rows es) → (rest : List ℕ) → PartsIn n rest es
+pub memory_parts : (n : ℕ) (es : List Equation) → Shaped n es → Below numbers_of_a_word (as_rows es) → (rest : List ℕ) → PartsIn n rest es
 memory_parts n [] shaped fits rest = tt
 memory_parts n (e ∷ es) shaped fits rest =
-    let both = below_parts numbers_of_aWord (as_row e) (as_rows es) fits in
+    let both = below_parts numbers_of_a_word (as_row e) (as_rows es) fits in
     let assoc = append_assoc (equation_memory e) (sheet_memory es) rest in (
       ap (front (n + 1)) assoc ∙ memory-front e both.0 (sheet_memory es ++ rest) n shaped.0,
       ap (behind (n + 1)) assoc ∙ memory-behind e both.0 (sheet_memory es ++ rest) n shaped.0,
@@ -90,9 +90,9 @@ memory_parts n (e ∷ es) shaped fits rest =
 abbrev words_for : Equation → List Word
 words_for e = map (numbered coefficient_kind) e.coefficients ++ (numbered right_kind e.right ∷ [])
 
-reads : (e : Equation) → Below numbers_of_aWord (as_row e) → words_in (equation_memory e) ≡ words_for e
+reads : (e : Equation) → Below numbers_of_a_word (as_row e) → words_in (equation_memory e) ≡ words_for e
 reads e fits =
-    let both = below_parts numbers_of_aWord e.coefficients (e.right ∷ []) fits in
+    let both = below_parts numbers_of_a_word e.coefficients (e.right ∷ []) fits in
     words_back_then coefficient_kind refl e.coefficients (words_of right_kind (e.right ∷ [])) both.0
     ∙ ap (λ (words : List Word). map (numbered coefficient_kind) e.coefficients ++ words)
     (words_back right_kind refl (e.right ∷ []) both.1)
@@ -116,8 +116,8 @@ residues m e below =
 
 module _ (m n : ℕ) (two : 2 ≤ m) (largest : m ≤ largest_modulus) (e : Equation) (shaped : length e.coefficients ≡ n)
     (below : Below m (as_row e)) where
-  fits : Below numbers_of_aWord (as_row e)
-  fits = below_mono m numbers_of_aWord (as_row e) (omega arith) below
+  fits : Below numbers_of_a_word (as_row e)
+  fits = below_mono m numbers_of_a_word (as_row e) (omega arith) below
 
   pub memory-line : line_from m n (words_in (equation_memory e)) ≡ record { modulus = m; equation = e }
   memory-line =

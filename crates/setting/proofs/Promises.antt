@@ -8,7 +8,7 @@ use Rattle.equations.specs.Line.{lines_mod}
 use Rattle.equations.proofs.Vectors.{below_mono}
 use Rattle.equations.proofs.Claim.{right-all}
 use Rattle.words.specs.Words.{words_in}
-use Rattle.words.specs.Promises.{numbers_of_aWord}
+use Rattle.words.specs.Promises.{numbers_of_a_word}
 use Rattle.ledger.specs.Shapes.{claim_from}
 use Rattle.setting.specs.Calls.{equations_for}
 use Rattle.setting.specs.Promises.{MadeAsWanted, MadeFits, AddedAsMade}
@@ -30,7 +30,7 @@ added_as_made m n ws let_in =
     let allowed = let_in_open m n ws let_in in
     let added =
     all_added m n allowed.0 allowed.1 es wants.shaped wants.residues [] (omega (arith, wants.few, allowed.3)) in (
-      memory_parts n es wants.shaped (below_mono m numbers_of_aWord (as_rows es) (omega (arith, allowed.1)) wants.residues),
+      memory_parts n es wants.shaped (below_mono m numbers_of_a_word (as_rows es) (omega (arith, allowed.1)) wants.residues),
       added.0,
       added.1,
       let_in_marked m n ws let_in (lines_mod m es),

@@ -29,7 +29,7 @@ fn minus(p: u32, u: u32, a: u32, b: u32, m: u32) -> u32
     if b <= x { x - b } else { x + (m - b) }
 }
 
-// line ← typeof.p.row - line. One product for each entry.
+// line ← p·row - line. One product for each entry.
 pub(crate) fn reduce(row: &[u32], line: &mut [u32], m: u32, inverse: u64, p: u32)
     requires { (p < m) × (length row.now ≡ length line.old) × Below m line.old × (inverse ≡ inverse_of m) }
     ensures { line.new ≡ combine m p (negative m 1 % m) row.now line.old }
@@ -43,7 +43,7 @@ pub(crate) fn reduce(row: &[u32], line: &mut [u32], m: u32, inverse: u64, p: u32
     }
 }
 
-// row ← typeof.s.row + t·line and line ← typeof.p.row + n·line, both from the old ones.
+// row ← s·row + t·line and line ← p·row + n·line, both from the old ones.
 pub(crate) fn combine_both(
     row: &mut [u32],
     line: &mut [u32],

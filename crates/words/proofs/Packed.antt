@@ -24,9 +24,9 @@ use borrow.Author.Tests.{eq-eqb, le-leb, ltb-true, ltb-false, lt-ltb}
 use Rattle.slices.specs.Over.{over}
 use Rattle.equations.specs.Vectors.{Below}
 use Rattle.words.specs.declared.unpacking.Word.{Word}
-use Rattle.words.specs.Words.{numbers_of_aKind, word_of, word, top_kind, takes_top, carries, words_in, words_for, words_of}
+use Rattle.words.specs.Words.{numbers_of_a_kind, word_of, word, top_kind, takes_top, carries, words_in, words_for, words_of}
 use Rattle.words.specs.Fronts.{first_length, front_length}
-use Rattle.words.specs.Promises.{numbers_of_aWord}
+use Rattle.words.specs.Promises.{numbers_of_a_word}
 use Rattle.words.proofs.Words.{word_kind, word_number}
 use Rattle.words.proofs.Tops.{words_pair, words_other, words_none, first_pair, first_other}
 use Rattle.words.proofs.Fronts.{front-length-suc}
@@ -34,25 +34,25 @@ use Rattle.words.proofs.Fronts.{front-length-suc}
 -- ---- one number
 
 module _ (k x : ℕ) where
-  pub words_small : ltb x numbers_of_aKind ≡ true → words_for k x ≡ word k x ∷ []
+  pub words_small : ltb x numbers_of_a_kind ≡ true → words_for k x ≡ word k x ∷ []
   unfolding words_for
   words_small h = rw h refl
 
-  pub words_large : ltb x numbers_of_aKind ≡ false
-      → words_for k x ≡ word top_kind (x / numbers_of_aKind) ∷ word k (x % numbers_of_aKind) ∷ []
+  pub words_large : ltb x numbers_of_a_kind ≡ false
+      → words_for k x ≡ word top_kind (x / numbers_of_a_kind) ∷ word k (x % numbers_of_a_kind) ∷ []
   unfolding words_for
   words_large h = rw h refl
 
-  pub length-small : ltb x numbers_of_aKind ≡ true → length (words_for k x) ≡ 1
+  pub length-small : ltb x numbers_of_a_kind ≡ true → length (words_for k x) ≡ 1
   length-small h = ap length (words_small h)
 
-  pub length_large : ltb x numbers_of_aKind ≡ false → length (words_for k x) ≡ 2
+  pub length_large : ltb x numbers_of_a_kind ≡ false → length (words_for k x) ≡ 2
   length_large h = ap length (words_large h)
 
-either_size : (P : Type 0) (x : ℕ) → (ltb x numbers_of_aKind ≡ true → P) → (ltb x numbers_of_aKind ≡ false → P) → P
-either_size P x small large = by (ltb x numbers_of_aKind) refl
+either_size : (P : Type 0) (x : ℕ) → (ltb x numbers_of_a_kind ≡ true → P) → (ltb x numbers_of_a_kind ≡ false → P) → P
+either_size P x small large = by (ltb x numbers_of_a_kind) refl
   where
-    by : (b : Bool) → ltb x numbers_of_aKind ≡ b → P
+    by : (b : Bool) → ltb x numbers_of_a_kind ≡ b → P
     by true h = small h
     by false h = large h
 
@@ -74,10 +74,10 @@ pub written_two : (k : ℕ) (xs : List ℕ) → length (words_of k xs) ≤ 2 * l
 written_two k [] = omega arith
 written_two k (x ∷ xs) = omega (arith, length-cons k x xs, length_two k x, written_two k xs)
 
-pub written_one : (k : ℕ) (xs : List ℕ) → Below numbers_of_aKind xs → length (words_of k xs) ≡ length xs
+pub written_one : (k : ℕ) (xs : List ℕ) → Below numbers_of_a_kind xs → length (words_of k xs) ≡ length xs
 written_one k [] h = refl
 written_one k (x ∷ xs) h =
-    omega (arith, length-cons k x xs, length-small k x (lt-ltb x numbers_of_aKind h.0), written_one k xs h.1)
+    omega (arith, length-cons k x xs, length-small k x (lt-ltb x numbers_of_a_kind h.0), written_one k xs h.1)
 
 pub written_kind : (k j : ℕ) (xs : List ℕ) → length (words_of k xs) ≡ length (words_of j xs)
 written_kind k j [] = refl
@@ -120,13 +120,13 @@ words_end xs i k h = ap (words_of k) (take_all i xs h)
 -- ---- a number written
 
 module _ (k x : ℕ) where
-  pub one-over : ltb x numbers_of_aKind ≡ true → (old : List ℕ) {w : ℕ} → 1 ≤ length old → w ≡ word k x
+  pub one-over : ltb x numbers_of_a_kind ≡ true → (old : List ℕ) {w : ℕ} → 1 ≤ length old → w ≡ word k x
       → set old 0 w ≡ over (words_for k x) old
   one-over h [] room is = absurd (omega arith)
   one-over h (y ∷ old) room is = rw (words_small k x h) (ap (λ (w : ℕ). w ∷ old) is)
 
-  pub two_over : ltb x numbers_of_aKind ≡ false → (old : List ℕ) {w v : ℕ} → 2 ≤ length old → w ≡ word top_kind (x / numbers_of_aKind)
-      → v ≡ word k (x % numbers_of_aKind) → set (set old 0 w) 1 v ≡ over (words_for k x) old
+  pub two_over : ltb x numbers_of_a_kind ≡ false → (old : List ℕ) {w v : ℕ} → 2 ≤ length old → w ≡ word top_kind (x / numbers_of_a_kind)
+      → v ≡ word k (x % numbers_of_a_kind) → set (set old 0 w) 1 v ≡ over (words_for k x) old
   two_over h [] room is low = absurd (omega arith)
   two_over h (y ∷ []) room is low = absurd (omega arith)
   two_over h (y ∷ z ∷ old) room is low = rw (words_large k x h) (ap₂ (λ (w v : ℕ). w ∷ v ∷ old) is low)
@@ -141,68 +141,68 @@ module _ (k : ℕ) (takes : takes_top k ≡ true) where
   no_top e = false≢true (ap takes_top (sym e) ∙ takes)
 
   module _ (x : ℕ) (ws : List ℕ) where
-    back_small : x < numbers_of_aKind → words_in (word k x ∷ ws) ≡ numbered k x ∷ words_in ws
+    back_small : x < numbers_of_a_kind → words_in (word k x ∷ ws) ≡ numbered k x ∷ words_in ws
     back_small h =
         words_other (word k x) ws (λ e. no_top (sym (word_kind k x h) ∙ e))
         ∙ ap (λ (first : Word). first ∷ words_in ws) (ap₂ numbered (word_kind k x h) (word_number k x h))
 
     abbrev low : ℕ
-    low = word k (x % numbers_of_aKind)
+    low = word k (x % numbers_of_a_kind)
 
     abbrev top : ℕ
-    top = word top_kind (x / numbers_of_aKind)
+    top = word top_kind (x / numbers_of_a_kind)
 
-    module _ (h : numbers_of_aKind ≤ x) (g : x < numbers_of_aWord) where
+    module _ (h : numbers_of_a_kind ≤ x) (g : x < numbers_of_a_word) where
       kind_low : (word_of low).kind ≡ k
-      kind_low = word_kind k (x % numbers_of_aKind) (omega arith)
+      kind_low = word_kind k (x % numbers_of_a_kind) (omega arith)
 
-      number_top : (word_of top).number ≡ x / numbers_of_aKind
-      number_top = word_number top_kind (x / numbers_of_aKind) (omega arith)
+      number_top : (word_of top).number ≡ x / numbers_of_a_kind
+      number_top = word_number top_kind (x / numbers_of_a_kind) (omega arith)
 
       good : carries top low ≡ true
       unfolding carries
       good =
           rw (
-            eq-eqb (word_of top).kind top_kind (word_kind top_kind (x / numbers_of_aKind) (omega arith)),
+            eq-eqb (word_of top).kind top_kind (word_kind top_kind (x / numbers_of_a_kind) (omega arith)),
             le-leb 1 (word_of top).number (omega (arith, number_top)),
             le-leb (word_of top).number 15 (omega (arith, number_top)),
           )
           (ap takes_top kind_low ∙ takes)
 
-      whole : (word_of top).number * numbers_of_aKind + (word_of low).number ≡ x
-      whole = omega (arith, number_top, word_number k (x % numbers_of_aKind) (omega arith))
+      whole : (word_of top).number * numbers_of_a_kind + (word_of low).number ≡ x
+      whole = omega (arith, number_top, word_number k (x % numbers_of_a_kind) (omega arith))
 
       back_large : words_in (top ∷ low ∷ ws) ≡ numbered k x ∷ words_in ws
       back_large = words_pair top low ws good ∙ ap (λ (first : Word). first ∷ words_in ws) (ap₂ numbered kind_low whole)
 
-    word_back : x < numbers_of_aWord → words_in (words_for k x ++ ws) ≡ numbered k x ∷ words_in ws
+    word_back : x < numbers_of_a_word → words_in (words_for k x ++ ws) ≡ numbered k x ∷ words_in ws
     word_back g =
         either_size (words_in (words_for k x ++ ws) ≡ numbered k x ∷ words_in ws) x
-        (λ h. ap (λ (z : List ℕ). words_in (z ++ ws)) (words_small k x h) ∙ back_small (ltb-true x numbers_of_aKind h))
-        (λ h. ap (λ (z : List ℕ). words_in (z ++ ws)) (words_large k x h) ∙ back_large (ltb-false x numbers_of_aKind h) g)
+        (λ h. ap (λ (z : List ℕ). words_in (z ++ ws)) (words_small k x h) ∙ back_small (ltb-true x numbers_of_a_kind h))
+        (λ h. ap (λ (z : List ℕ). words_in (z ++ ws)) (words_large k x h) ∙ back_large (ltb-false x numbers_of_a_kind h) g)
 
-  pub words_back_then : (xs ws : List ℕ) → Below numbers_of_aWord xs → words_in (words_of k xs ++ ws) ≡ map (numbered k) xs ++ words_in ws
+  pub words_back_then : (xs ws : List ℕ) → Below numbers_of_a_word xs → words_in (words_of k xs ++ ws) ≡ map (numbered k) xs ++ words_in ws
   words_back_then [] ws h = refl
   words_back_then (x ∷ xs) ws h =
       ap words_in (append_assoc (words_for k x) (words_of k xs) ws) ∙ word_back x (words_of k xs ++ ws) h.0
       ∙ ap (λ (words : List Word). numbered k x ∷ words) (words_back_then xs ws h.1)
 
-  pub words_back : (xs : List ℕ) → Below numbers_of_aWord xs → words_in (words_of k xs) ≡ map (numbered k) xs
+  pub words_back : (xs : List ℕ) → Below numbers_of_a_word xs → words_in (words_of k xs) ≡ map (numbered k) xs
   words_back xs h =
       ap words_in (sym (append-nil (words_of k xs))) ∙ words_back_then xs [] h
       ∙ ap (λ (words : List Word). map (numbered k) xs ++ words) words_none ∙ append-nil (map (numbered k) xs)
 
   -- ---- how much memory
 
-  first_back : (x : ℕ) (ws : List ℕ) → x < numbers_of_aWord → first_length (words_for k x ++ ws) ≡ length (words_for k x)
+  first_back : (x : ℕ) (ws : List ℕ) → x < numbers_of_a_word → first_length (words_for k x ++ ws) ≡ length (words_for k x)
   first_back x ws g =
       either_size (first_length (words_for k x ++ ws) ≡ length (words_for k x)) x
       (λ h. ap (λ (z : List ℕ). first_length (z ++ ws)) (words_small k x h)
-      ∙ first_other (word k x) ws (λ e. no_top (sym (word_kind k x (ltb-true x numbers_of_aKind h)) ∙ e)) ∙ sym (length-small k x h))
+      ∙ first_other (word k x) ws (λ e. no_top (sym (word_kind k x (ltb-true x numbers_of_a_kind h)) ∙ e)) ∙ sym (length-small k x h))
       (λ h. ap (λ (z : List ℕ). first_length (z ++ ws)) (words_large k x h)
-      ∙ first_pair (top x ws) (low x ws) ws (good x ws (ltb-false x numbers_of_aKind h) g) ∙ sym (length_large k x h))
+      ∙ first_pair (top x ws) (low x ws) ws (good x ws (ltb-false x numbers_of_a_kind h) g) ∙ sym (length_large k x h))
 
-  pub front_back : (xs ws : List ℕ) (j : ℕ) → Below numbers_of_aWord xs
+  pub front_back : (xs ws : List ℕ) (j : ℕ) → Below numbers_of_a_word xs
       → front_length (length xs + j) (words_of k xs ++ ws) ≡ length (words_of k xs) + front_length j ws
   front_back [] ws j h = let same : 0 + j ≡ j = omega arith in ap (λ (i : ℕ). front_length i ws) same ∙ omega arith
   front_back (x ∷ xs) ws j h =

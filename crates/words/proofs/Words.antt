@@ -12,9 +12,9 @@ use lib.ListN.{length, length-map}
 use Rattle.residue.specs.Residue.{residue_of}
 use Rattle.equations.specs.Vectors.{Below}
 use Rattle.words.specs.declared.unpacking.Word.{Word}
-use Rattle.words.specs.Words.{numbers_of_aKind, word_of, word, words_in, numbers_of}
+use Rattle.words.specs.Words.{numbers_of_a_kind, word_of, word, words_in, numbers_of}
 use Rattle.words.specs.Signs.{without_minus, whole_of}
-use Rattle.words.specs.Promises.{numbers_of_aWord}
+use Rattle.words.specs.Promises.{numbers_of_a_word}
 use Rattle.words.proofs.Tops.{along, carries-number, words_none, words_one, words_pair, words_single}
 
 -- the parts of a word that the readers of words take
@@ -34,9 +34,9 @@ pub parts_count : (part : Word → ℕ) (words : List Word) → length (map part
 parts_count part words = length-map words part
 
 abbrev Below32 : List Word → Type 0
-Below32 words = Below numbers_of_aWord (numbers_of words)
+Below32 words = Below numbers_of_a_word (numbers_of words)
 
-pub numbers_below : (ws : List ℕ) → Below numbers_of_aWord (numbers_of (words_in ws))
+pub numbers_below : (ws : List ℕ) → Below numbers_of_a_word (numbers_of (words_in ws))
 numbers_below =
     along (λ (ws : List ℕ). Below32 (words_in ws)) (subst Below32 (sym words_none) tt)
     (λ w. subst Below32 (sym (words_one w)) (omega arith, tt))
@@ -50,8 +50,8 @@ words_fewer =
     (λ w v ws h p. omega (arith, ap length (words_pair w v ws h), p))
     (λ w v ws h p. omega (arith, ap length (words_single w v ws h), p))
 
-pub word_kind : (k x : ℕ) → x < numbers_of_aKind → (word_of (word k x)).kind ≡ k
+pub word_kind : (k x : ℕ) → x < numbers_of_a_kind → (word_of (word k x)).kind ≡ k
 word_kind k x h = omega arith
 
-pub word_number : (k x : ℕ) → x < numbers_of_aKind → (word_of (word k x)).number ≡ x
+pub word_number : (k x : ℕ) → x < numbers_of_a_kind → (word_of (word k x)).number ≡ x
 word_number k x h = omega arith

@@ -6,16 +6,16 @@ use Rattle.equations.specs.Vectors.{same_vector}
 use Rattle.words.specs.declared.unpacking.Word.{Word}
 
 -- 2 ^ 28: "the low 28" bits are the number
-abbrev pub numbers_of_aKind : ℕ
-numbers_of_aKind = 268435456
+abbrev pub numbers_of_a_kind : ℕ
+numbers_of_a_kind = 268435456
 
 -- "A word has 32 bits: the top 4 are its kind, the low 28 its number.": one memory word, read by itself
 abbrev pub word_of : ℕ → Word
-word_of w = record { kind = w / numbers_of_aKind; number = w % numbers_of_aKind }
+word_of w = record { kind = w / numbers_of_a_kind; number = w % numbers_of_a_kind }
 
 -- the 32 bits of a word with this kind and this number
 abbrev pub word : ℕ → ℕ → ℕ
-word kind number = kind * numbers_of_aKind + number
+word kind number = kind * numbers_of_a_kind + number
 
 -- "Kinds: 1 modulus; 2 unknowns; 3 coefficient; 4 right side; 5 head; 6 vector entry; 7 multiplier; 8 strike; 9 answer."
 abbrev pub modulus_kind : ℕ
@@ -75,7 +75,7 @@ carries w v =
 
 -- the word that both are then
 abbrev pub joined : ℕ → ℕ → Word
-joined w v = record { kind = (word_of v).kind; number = (word_of w).number * numbers_of_aKind + (word_of v).number }
+joined w v = record { kind = (word_of v).kind; number = (word_of w).number * numbers_of_a_kind + (word_of v).number }
 
 -- The words that lie in memory. A word of kind 13 "counts as part of that word" whose top it carries; one "that breaks the rule .. counts as a
 -- word of its own".
@@ -102,8 +102,8 @@ have_kinds words kinds = same_vector (kinds_of words) kinds
 -- memory with a word of this kind and this number: "Writers put it in only for numbers of 2^28 or more."
 unfoldable pub words_for : ℕ → ℕ → List ℕ
 words_for kind x =
-    cond (ltb x numbers_of_aKind) (word kind x ∷ [])
-    (word top_kind (x / numbers_of_aKind) ∷ word kind (x % numbers_of_aKind) ∷ [])
+    cond (ltb x numbers_of_a_kind) (word kind x ∷ [])
+    (word top_kind (x / numbers_of_a_kind) ∷ word kind (x % numbers_of_a_kind) ∷ [])
 
 -- memory with words of one kind that have these numbers
 abbrev pub words_of : ℕ → List ℕ → List ℕ

@@ -1,14 +1,14 @@
 // Words into memory.
 ghost use Rattle.std.specs.Prelude.{◌≡◌, ℕ, ◌<◌, ◌≤◌, length};
 ghost use Rattle.slices.specs.Over.{over};
-ghost use Rattle.words.specs.Words.{numbers_of_aKind, words_for, words_of};
+ghost use Rattle.words.specs.Words.{numbers_of_a_kind, words_for, words_of};
 ghost use Rattle.words.specs.Words.{word as word_of};
 
 use crate::kinds::TOP;
 use crate::unpacking::{NUMBERS, unpack};
 
 pub fn word(kind: u32, number: u32) -> u32
-    requires { (kind < 16) × (number < numbers_of_aKind) }
+    requires { (kind < 16) × (number < numbers_of_a_kind) }
     ensures { result ≡ word_of kind number }
 {
     kind * NUMBERS + number
