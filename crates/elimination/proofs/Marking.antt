@@ -13,6 +13,7 @@ use Prim.Native.Nat.{ℕ, ◌<◌}
 use lib.ListN.{length, replicate, length-replicate}
 use lib.Dec.{T}
 use mir.Facts.{and_yes, yes_and}
+use Rattle.residue.specs.Negative.{negative}
 use Rattle.residue.proofs.Congruent.{congruent_of_eq}
 use Rattle.equations.specs.Lists.{every}
 use Rattle.equations.specs.Vectors.{Vector, combine}
@@ -22,7 +23,7 @@ use Rattle.equations.specs.Claim.{no_solution, from, is_right}
 use Rattle.equations.proofs.Truth.{true_of, false_of, same_of_both}
 use Rattle.equations.proofs.Dot.{dot_zeros}
 use Rattle.equations.proofs.Vectors.{vector-length, vector_of, below-combine}
-use Rattle.equations.proofs.Combine.{combine_zeros}
+use Rattle.equations.proofs.Combine.{combine_zeros, combine-difference}
 use Rattle.equations.proofs.Answer.{start_solves}
 use Rattle.equations.proofs.OwnAnswer.{none_right}
 use Rattle.equations.proofs.Claim.{Described, describes-nothing, describes_exists, right-all}
@@ -33,7 +34,7 @@ use Rattle.elimination.proofs.Basis.{All, Long}
 use Rattle.elimination.proofs.Answer.{answer_start, answer-none}
 use Rattle.elimination.proofs.Span.{Span, linear_span, span_all, span_in}
 use Rattle.elimination.proofs.Kernel.{Kernel, linear_kernel}
-use Rattle.elimination.proofs.Described.{length_shifted, described_of_span, span_of_described, solves_of_kernel, kernel_of_solves, described_solves}
+use Rattle.elimination.proofs.Described.{length_shifted, length-difference, described_of_span, span_of_described, solves_of_kernel, kernel_of_solves}
 use Rattle.elimination.proofs.Agree.{agree_of_test, test_of_agree, kernel_span, agree_of_same}
 
 -- the test of the steps
@@ -62,7 +63,26 @@ module _ (m n k : ℕ) (es : List Equation) (c : List ℕ) (cs : List (List ℕ)
   abbrev Same : Type 0
   Same = (v : List ℕ) → Vector m n v → Described m c cs v ↔ T (solves m es v)
 
-  -- ---- a claim that describes the solutions is right
+  -- ---- a right claim describes the solutions
+
+  module _ (start : T (solves m es c)) (into : (W : List ℕ) → length W ≡ n → Span m cs W → Kernel m es W)
+      (onto : (W : List ℕ) → length W ≡ n → Kernel m es W → Span m cs W) where
+    same-of-sets : Same
+    same-of-sets v vv =
+        subst (λ (v : List ℕ). Described m c cs v ↔ T (solves m es v)) (combine-difference m n pos v c vv vec) (
+          (λ d. solves_of_kernel m n c pos vec es start W lw
+              (into W lw (span_of_described m n c pos vec cs long W lw d))),
+          λ t. described_of_span m n c pos vec cs long W lw
+              (onto W lw (kernel_of_solves m n c pos vec es start W lw t)),
+        )
+      where
+        W : List ℕ
+        W = combine m 1 (negative m 1) v c
+
+        lw : length W ≡ n
+        lw = length-difference m n c pos vec v (vector-length m n v vv)
+
+  -- ---- and a claim that describes the solutions is right
 
   module _ (same : Same) where
     vector_shifted : (W : List ℕ) → length W ≡ n → Vector m n (combine m 1 1 c W)
@@ -100,7 +120,6 @@ module _ (m n k : ℕ) (es : List Equation) (c : List ℕ) (cs : List (List ℕ)
       (test_of_agree m n (tableau m n k es) (basis m n 0 cs)
       (agree_of_same m n k es cs pos shaped long (span_kernel same) (kernel_spanned same)))
 
-  -- and a right one describes the solutions
   same_of_right : T (claim_right m n k es c cs) → Same
   unfolding claim_right
   same_of_right t =
@@ -108,11 +127,8 @@ module _ (m n k : ℕ) (es : List Equation) (c : List ℕ) (cs : List (List ℕ)
       let all = and_yes tests (agree m n (tableau m n k es) (basis m n 0 cs)) t in
       let solved = and_yes (solves m es c) (every (solves m (homogeneous es)) cs) all.0 in
       let steps = all_of_every m es cs solved.1 in
-      let agreed = agree_of_test m n (tableau m n k es) (basis m n 0 cs) all.1 in
-      described_solves m n c pos vec cs long es solved.0 (λ W vw. (
-        span_in m n (Kernel m es) (linear_kernel m es) cs long steps W,
-        kernel_span m n k es cs pos shaped long agreed steps W (vector-length m n W vw),
-      ))
+      same-of-sets solved.0 (λ W lw. span_in m n (Kernel m es) (linear_kernel m es) cs long steps W)
+      (kernel_span m n k es cs pos shaped long (agree_of_test m n (tableau m n k es) (basis m n 0 cs) all.1) steps)
 
   pub marking : claim_right m n k es c cs ≡ is_right m n es (from c cs)
   marking =
