@@ -38,9 +38,7 @@ slice_bounds-rest-count c =
     turn_long a.n l.i a.moduli.now l.rest.now (omega arith) l.invariant.1
 
 pub slice_bounds-rest-start : goal.slice_bounds-rest-start
-slice_bounds-rest-start c = (let a = c.args in
-    let l = c.loop-i in
-    turn_long a.n l.i a.moduli.now l.rest.now (omega arith) l.invariant.1)
+slice_bounds-rest-start c = slice_bounds-rest-count c
 
 pub loop-i-preserved : goal.loop-i-preserved
 loop-i-preserved c =

@@ -32,9 +32,7 @@ slice_bounds-rest-count g c =
     (step-bytes l.sheet l.rest.now c.loop-rest-test.true c.next-step.ensures.value).1
 
 pub slice_bounds-rest-start : goal.slice_bounds-rest-start
-slice_bounds-rest-start g c =
-    let l = c.loop-rest in
-    (step-bytes l.sheet l.rest.now c.loop-rest-test.true c.next-step.ensures.value).1
+slice_bounds-rest-start c = slice_bounds-rest-count c
 
 pub loop-rest-smaller : goal.loop-rest-smaller
 loop-rest-smaller g c =

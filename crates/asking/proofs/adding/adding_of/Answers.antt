@@ -42,7 +42,7 @@ pub slice_bounds-residues_into-count : goal.slice_bounds-residues_into-count
 slice_bounds-residues_into-count c = c.own_of-own.ensures.behind_value.1
 
 pub slice_bounds-residues_into-start : goal.slice_bounds-residues_into-start
-slice_bounds-residues_into-start c = (c.own_of-own.ensures.behind_value.1)
+slice_bounds-residues_into-start c = slice_bounds-residues_into-count c
 
 pub residues_into-count-requires : goal.residues_into-count-requires
 residues_into-count-requires c =

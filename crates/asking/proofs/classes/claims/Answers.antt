@@ -18,8 +18,7 @@ slice_bounds-rest-count c =
     (claim_used n c.loop-rest.rest.now (omega arith) c.first_claim-used.ensures.0).1
 
 pub slice_bounds-rest-start : goal.slice_bounds-rest-start
-slice_bounds-rest-start c = (let n = c.args.n in
-    (claim_used n c.loop-rest.rest.now (omega arith) c.first_claim-used.ensures.0).1)
+slice_bounds-rest-start c = slice_bounds-rest-count c
 
 pub loop-rest-smaller : goal.loop-rest-smaller
 loop-rest-smaller c =

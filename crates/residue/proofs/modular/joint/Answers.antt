@@ -31,16 +31,7 @@ overflow_add-quotient c =
     )
 
 pub overflow_cast-quotient : goal.overflow_cast-quotient
-overflow_cast-quotient c = let p = c.requires in
-    let z = c.args in
-    let u = reciprocal_small p.0 (omega arith) p.1 in
-    let v = reciprocal_small p.2 (omega arith) p.3 in
-    omega (
-      arith,
-      both_fit 4294967295 (z.u + 1) (z.v + 1) z.a z.b (omega arith) (omega arith) p.4,
-      c.product.ensures.0,
-      c.product-2.ensures.0,
-    )
+overflow_cast-quotient c = omega (arith, overflow_add-quotient c)
 
 pub overflow_add-sum-2 : goal.overflow_add-sum-2
 overflow_add-sum-2 c =
@@ -54,14 +45,7 @@ overflow_add-sum-2 c =
     )
 
 pub overflow_add-sum : goal.overflow_add-sum
-overflow_add-sum c = let p = c.requires in
-    let z = c.args in
-    omega (
-      arith,
-      both_fit 2147483648 z.s z.t z.a z.b (omega arith) (omega arith) p.4,
-      c.product-3.ensures.0,
-      c.product-4.ensures.0,
-    )
+overflow_add-sum c = omega (arith, overflow_add-sum-2 c)
 
 pub overflow_sub-sum : goal.overflow_sub-sum
 overflow_sub-sum c =

@@ -24,9 +24,7 @@ slice_bounds-write-count-2 c =
     omega (arith, line-length c.args.n c.args.line.now c.requires.1, c.requires.2, first.ensures.value, first.auto.out)
 
 pub slice_bounds-write-start-2 : goal.slice_bounds-write-start-2
-slice_bounds-write-start-2 c = (
-    let first = c.write-coefficients in
-    omega (arith, line-length c.args.n c.args.line.now c.requires.1, c.requires.2, first.ensures.value, first.auto.out))
+slice_bounds-write-start-2 c = slice_bounds-write-count-2 c
 
 pub write-requires : goal.write-requires
 write-requires c =

@@ -44,14 +44,7 @@ slice_bounds-write_line-count c =
     omega (arith, room)
 
 pub slice_bounds-write_line-start : goal.slice_bounds-write_line-start
-slice_bounds-write_line-start c =
-    let a = c.args in
-    let l = c.loop-rest in
-    let rest = l.rest.now in
-    let room =
-    poured_room (rows_memory a.n) a.lines.now a.out.now rest l.at l.out l.invariant.1 c.requires.1
-    (equation_memory (equation_at a.n (take (a.n + 1) rest))) (lent (a.n + 1) rest) (rows_next a.n rest (omega arith)) in
-    omega (arith, room)
+slice_bounds-write_line-start c = slice_bounds-write_line-count c
 
 pub write_line-at-requires : goal.write_line-at-requires
 write_line-at-requires c =

@@ -24,29 +24,16 @@ slice_bounds-scale_into-count c =
     lines-within c.args.sheet.now c.requires.room.0 c.wide.ensures c.wide-width.ensures
 
 pub overflow_mul-at : goal.overflow_mul-at
-overflow_mul-at c = omega (
-  arith,
-  (
-      lines-within c.args.sheet.now c.requires.room.0 c.wide.ensures c.wide-width.ensures),
-)
+overflow_mul-at c = omega (arith, slice_bounds-scale_into-count c)
 
 pub overflow_add-at : goal.overflow_add-at
-overflow_add-at c = omega (
-  arith,
-  (
-      lines-within c.args.sheet.now c.requires.room.0 c.wide.ensures c.wide-width.ensures),
-)
+overflow_add-at c = omega (arith, slice_bounds-scale_into-count c)
 
 pub offset_bounds-sheet-at : goal.offset_bounds-sheet-at
-offset_bounds-sheet-at c = omega (
-  arith,
-  (
-      lines-within c.args.sheet.now c.requires.room.0 c.wide.ensures c.wide-width.ensures),
-)
+offset_bounds-sheet-at c = omega (arith, slice_bounds-scale_into-count c)
 
 pub slice_bounds-scale_into-start : goal.slice_bounds-scale_into-start
-slice_bounds-scale_into-start c = (
-    lines-within c.args.sheet.now c.requires.room.0 c.wide.ensures c.wide-width.ensures)
+slice_bounds-scale_into-start c = slice_bounds-scale_into-count c
 
 pub scale_into-requires : goal.scale_into-requires
 scale_into-requires c =

@@ -50,9 +50,7 @@ slice_bounds-rest-count c =
     (claim_used n rest (omega arith) c.first_claim-used.ensures.0).1
 
 pub slice_bounds-rest-start : goal.slice_bounds-rest-start
-slice_bounds-rest-start c = (let n = c.args.view.seen.unknowns in
-    let rest = c.loop-rest.rest.now in
-    (claim_used n rest (omega arith) c.first_claim-used.ensures.0).1)
+slice_bounds-rest-start c = slice_bounds-rest-count c
 
 pub overflow_add-i : goal.overflow_add-i
 overflow_add-i c =

@@ -33,14 +33,7 @@ overflow_add-end c =
     omega (arith, end)
 
 pub overflow_mul-end : goal.overflow_mul-end
-overflow_mul-end c =
-    let s = c.args.sheet.now in
-    let sees = c.requires.0.sees in
-    let asked = c.mark_refusal-refusal.ensures in
-    let accepted = sym (asked.value (ledger_of s) sees) ∙ c.if-refusal-ne0.false in
-    let end = mark_end (ledger_of s) c.args.words.now accepted (unknowns-few s) (replicate claim_room 0) asked.numbers_after sees c.wide.result
-    c.wide.ensures in
-    omega (arith, end)
+overflow_mul-end c = omega (arith, overflow_add-end c)
 
 pub slice_bounds-explain-end : goal.slice_bounds-explain-end
 slice_bounds-explain-end c =

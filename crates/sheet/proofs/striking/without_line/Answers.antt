@@ -28,40 +28,23 @@ slice_bounds-move_up-count c =
     place-within c.args.sheet.now c.requires.0 c.wide.ensures c.wide-width.ensures c.args.index c.requires.1
 
 pub overflow_mul-front : goal.overflow_mul-front
-overflow_mul-front c = omega (
-  arith,
-  (
-      place-within c.args.sheet.now c.requires.0 c.wide.ensures c.wide-width.ensures c.args.index c.requires.1),
-)
+overflow_mul-front c = omega (arith, slice_bounds-move_up-count c)
 
 pub overflow_add-at : goal.overflow_add-at
-overflow_add-at c = omega (
-  arith,
-  (
-      place-within c.args.sheet.now c.requires.0 c.wide.ensures c.wide-width.ensures c.args.index c.requires.1),
-)
+overflow_add-at c = omega (arith, slice_bounds-move_up-count c)
 
 pub offset_bounds-sheet-at : goal.offset_bounds-sheet-at
-offset_bounds-sheet-at c = omega (
-  arith,
-  (
-      place-within c.args.sheet.now c.requires.0 c.wide.ensures c.wide-width.ensures c.args.index c.requires.1),
-)
+offset_bounds-sheet-at c = omega (arith, slice_bounds-move_up-count c)
 
 pub slice_bounds-move_up-start : goal.slice_bounds-move_up-start
-slice_bounds-move_up-start c = (
-    place-within c.args.sheet.now c.requires.0 c.wide.ensures c.wide-width.ensures c.args.index c.requires.1)
+slice_bounds-move_up-start c = slice_bounds-move_up-count c
 
 pub overflow_sub-filled-2 : goal.overflow_sub-filled-2
 overflow_sub-filled-2 c =
     line-behind c.args.sheet.now c.requires.0 c.wide.ensures c.wide-width.ensures c.args.index c.requires.1
 
 pub overflow_sub-filled : goal.overflow_sub-filled
-overflow_sub-filled c = omega (
-  arith,
-  (
-      line-behind c.args.sheet.now c.requires.0 c.wide.ensures c.wide-width.ensures c.args.index c.requires.1),
-)
+overflow_sub-filled c = omega (arith, overflow_sub-filled-2 c)
 
 pub move_up-requires : goal.move_up-requires
 move_up-requires c =
@@ -82,24 +65,10 @@ slice_bounds-move_up-count-2 c =
     )
 
 pub offset_bounds-sheet-own : goal.offset_bounds-sheet-own
-offset_bounds-sheet-own c =
-    let s = c.args.sheet.now in
-    omega (
-      arith,
-      c.requires.1,
-      held_small s c.requires.0,
-      between_long s c.requires.0 c.wide.ensures c.wide-width.ensures c.args.index c.requires.1 c.move_up.ensures,
-    )
+offset_bounds-sheet-own c = omega (arith, slice_bounds-move_up-count-2 c)
 
 pub slice_bounds-move_up-start-2 : goal.slice_bounds-move_up-start-2
-slice_bounds-move_up-start-2 c = (
-    let s = c.args.sheet.now in
-    omega (
-      arith,
-      c.requires.1,
-      held_small s c.requires.0,
-      between_long s c.requires.0 c.wide.ensures c.wide-width.ensures c.args.index c.requires.1 c.move_up.ensures,
-    ))
+slice_bounds-move_up-start-2 c = slice_bounds-move_up-count-2 c
 
 pub move_up-requires-2 : goal.move_up-requires-2
 move_up-requires-2 c =

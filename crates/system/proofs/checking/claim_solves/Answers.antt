@@ -40,9 +40,7 @@ slice_bounds-first_change-count c =
     claim_front a.m a.n a.claim.now c.requires.1 c.if-claim-eq0.false
 
 pub slice_bounds-first_change-start : goal.slice_bounds-first_change-start
-slice_bounds-first_change-start c = (
-    let a = c.args in
-    claim_front a.m a.n a.claim.now c.requires.1 c.if-claim-eq0.false)
+slice_bounds-first_change-start c = slice_bounds-first_change-count c
 
 pub first_change-change-requires : goal.first_change-change-requires
 first_change-change-requires c =

@@ -53,8 +53,7 @@ slice_bounds-steps-count c =
     claim_front c.args.m c.args.n c.args.claim.now c.requires.1 c.if-claim-eq0.false
 
 pub slice_bounds-steps-start : goal.slice_bounds-steps-start
-slice_bounds-steps-start c = (
-    claim_front c.args.m c.args.n c.args.claim.now c.requires.1 c.if-claim-eq0.false)
+slice_bounds-steps-start c = slice_bounds-steps-count c
 
 pub first_broken-broken-requires : goal.first_broken-broken-requires
 first_broken-broken-requires c =

@@ -19,8 +19,7 @@ slice_bounds-needless-count c =
     claim_front c.args.m c.args.n c.args.claim.now c.requires.4 c.if-claim-eq0.false
 
 pub slice_bounds-needless-start : goal.slice_bounds-needless-start
-slice_bounds-needless-start c = (
-    claim_front c.args.m c.args.n c.args.claim.now c.requires.4 c.if-claim-eq0.false)
+slice_bounds-needless-start c = slice_bounds-needless-count c
 
 pub needless-requires : goal.needless-requires
 needless-requires c =

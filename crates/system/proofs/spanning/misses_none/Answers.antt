@@ -27,8 +27,7 @@ slice_bounds-missing-count c =
     claim_front c.args.m c.args.n c.args.claim.now c.requires.4 c.if-claim-eq0.false
 
 pub slice_bounds-missing-start : goal.slice_bounds-missing-start
-slice_bounds-missing-start c = (
-    claim_front c.args.m c.args.n c.args.claim.now c.requires.4 c.if-claim-eq0.false)
+slice_bounds-missing-start c = slice_bounds-missing-count c
 
 pub missing-requires : goal.missing-requires
 missing-requires c =

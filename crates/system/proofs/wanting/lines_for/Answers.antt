@@ -32,8 +32,7 @@ slice_bounds-lines_around-count c =
     claim_front c.args.m c.args.n c.args.claim.now c.requires.3 c.if-claim-eq0.false
 
 pub slice_bounds-lines_around-start : goal.slice_bounds-lines_around-start
-slice_bounds-lines_around-start c = (
-    claim_front c.args.m c.args.n c.args.claim.now c.requires.3 c.if-claim-eq0.false)
+slice_bounds-lines_around-start c = slice_bounds-lines_around-count c
 
 pub lines_around-requires : goal.lines_around-requires
 lines_around-requires c =

@@ -30,11 +30,7 @@ slice_bounds-rest-count c =
     (step-bytes l.sheet rest (omega arith) step.ensures.value).1
 
 pub slice_bounds-rest-start : goal.slice_bounds-rest-start
-slice_bounds-rest-start c =
-    let l = c.loop-rest in
-    let step = c.next-step in
-    let rest = l.rest.now in
-    (step-bytes l.sheet rest (omega arith) step.ensures.value).1
+slice_bounds-rest-start c = slice_bounds-rest-count c
 
 pub overflow_add-written : goal.overflow_add-written
 overflow_add-written c =

@@ -27,11 +27,7 @@ slice_bounds-rest-count c =
     (step-bytes l.sheet rest (omega arith) step.ensures.value).1
 
 pub slice_bounds-rest-start : goal.slice_bounds-rest-start
-slice_bounds-rest-start c =
-    let l = c.loop-rest in
-    let step = c.next-step in
-    let rest = l.rest.now in
-    (step-bytes l.sheet rest (omega arith) step.ensures.value).1
+slice_bounds-rest-start c = slice_bounds-rest-count c
 
 pub slice_bounds-told-end : goal.slice_bounds-told-end
 slice_bounds-told-end c =
@@ -54,9 +50,7 @@ slice_bounds-copy_bytes-count c =
     omega (arith, room-behind l.invariant.2 c.requires.1 l.invariant.1)
 
 pub slice_bounds-copy_bytes-start : goal.slice_bounds-copy_bytes-start
-slice_bounds-copy_bytes-start c =
-    let l = c.loop-rest in
-    omega (arith, room-behind l.invariant.2 c.requires.1 l.invariant.1)
+slice_bounds-copy_bytes-start c = slice_bounds-copy_bytes-count c
 
 pub copy_bytes-requires : goal.copy_bytes-requires
 copy_bytes-requires c =
