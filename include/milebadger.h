@@ -304,7 +304,7 @@ int64_t milebadger_add(milebadger_sheet *sheet, const uint32_t *words, size_t wo
  * Returns  how many equations are then held, 1 to 16; or -4, -11, -12, -13, -5.
  *
  * The readers of brackets, signs and stars call each other, and take stack until the text is read. The most that was
- * measured is 191,000 bytes, for 256 opening brackets or 256 minus signs; 126 pairs of brackets take 95,000. */
+ * measured is 240,000 bytes, for 256 opening brackets or 256 minus signs; 126 pairs of brackets take 120,000. */
 int64_t milebadger_add_text(milebadger_sheet *sheet, const uint8_t *text, size_t text_len);
 
 /* Strikes the equation at a place: 1 for the first, and 0 for the last. Those behind it close up in order, each with its

@@ -1,6 +1,9 @@
 -- What the questions see of a sheet, and how many of a call's words. Definitions only.
-use Rattle.std.specs.Prelude.{◌≡◌, ℕ, ◌+◌, length}
+use Rattle.std.specs.Prelude.{◌≡◌, cond, List, ℕ, ◌+◌, length}
+use Rattle.questions.specs.Questions.{allowed_own}
+use Rattle.words.specs.declared.unpacking.Word.{Word}
 use Rattle.ledger.specs.Ledger.{Ledger, is_opened, modulus_of, unknowns_of, lines_in, most_unknowns}
+use Rattle.ledger.specs.Shapes.{own_modulus}
 use Rattle.ledger.specs.Block.{longest_block}
 use Rattle.ledger.specs.Classes.{most_claims}
 use Rattle.asking.specs.declared.Seen.{Seen}
@@ -21,6 +24,10 @@ equation_room = most_unknowns + 2
 
 abbrev pub claim_room : ℕ
 claim_room = longest_block + 1
+
+-- the modulus by which the residues of an equation's words are taken: its own, or the sheet's where its own is not allowed
+abbrev pub used_modulus : ℕ → List Word → ℕ
+used_modulus m ws = cond (allowed_own m (own_modulus m ws)) (own_modulus m ws) m
 
 -- so many claims of a class are counted: one more than are marked
 abbrev pub counted_claims : ℕ

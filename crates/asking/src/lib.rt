@@ -1,5 +1,5 @@
-// The questions that the calls on a sheet ask, in the paper's order: the number of the first whose answer is no, or 0 where the call is
-// accepted. They see four numbers of a sheet, and not its record.
+// The questions that the calls on a sheet ask, in the paper's order: the first whose answer is no turns the call away. They see three
+// numbers of a sheet and whether it is opened, and not its record.
 #![tactic(auto)]
 
 pub mod adding;
@@ -14,7 +14,8 @@ ghost use Rattle.ledger.specs.Questions.{allowed_unknowns};
 
 use system::limits::UNKNOWNS;
 
-// What questions ask of a sheet: whether it is opened, m, n, and how many equations it holds; all 0 where it is not.
+// What questions ask of a sheet: whether it is opened, m, n, and how many equations it holds. No Option: a sheet that is not opened has 0
+// unknowns, by which a tape's calls and a class's claims have their lengths all the same.
 #[derive(Clone, Copy)]
 pub struct Seen {
     pub opened: bool,

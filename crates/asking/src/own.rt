@@ -10,7 +10,8 @@ use words::kinds::OWN_MODULUS;
 use words::unpacking::first_at;
 
 // Whether a line on the sheet may have the modulus that the words give it; this modulus, or the sheet's where it may not; and the place of
-// the first word of the equation.
+// the first word of the equation. No Option of the modulus: `adding_of` promises residues by it also where it is not allowed, by the sheet's
+// then, and asks whether it is as it asks all questions; an Option would be taken apart for each of the two.
 #[derive(Clone, Copy)]
 pub(crate) struct Own {
     pub allowed: bool,

@@ -8,13 +8,11 @@ ghost use Rattle.ledger.specs.Shapes.{largest_head};
 use system::limits::VECTORS;
 use words::kinds::{COEFFICIENT, ENTRY, HEAD, MODULUS, RIGHT, UNKNOWNS, run_of};
 
+#[tactic(auto, using(words::proofs::Compared::kinds_other))]
 pub(crate) fn is_opening(kinds: &[u32]) -> bool
     ensures { result ≡ same_vector kinds.now (modulus_kind ∷ unknowns_kind ∷ []) }
 {
-    if kinds.len() != 2 {
-        return false;
-    }
-    kinds[0] == MODULUS && kinds[1] == UNKNOWNS
+    matches!(kinds, [MODULUS, UNKNOWNS])
 }
 
 // n coefficients and a right side.

@@ -8,31 +8,27 @@ use Prim.Native.Nat.{ℕ, ◌<◌}
 use native.Mathlib.Omega.{arith}
 use lib.Dec.{T}
 use lib.IntN.{ℤ}
+use Rattle.std.specs.Prelude.{Option, Ok, Err}
 use Rattle.questions.specs.Questions.{allowed_modulus, largest_modulus}
 use Rattle.questions.proofs.Questions.{within_range}
 use Rattle.residue.specs.Residue.{residue_of}
 use Rattle.residue.specs.Congruence.{solutions_of}
 use Rattle.residue.specs.declared.congruence.Solutions.{Solutions}
-use Rattle.congruence.specs.declared.Solved.{Solved}
-use Rattle.congruence.specs.declared.Solved.TheVariants.{Refused}
-use Rattle.congruence.specs.Congruence.{solved_of, congruence_of}
+use Rattle.congruence.specs.Congruence.{congruence_of}
 
 pub modulus_some : (m : ℕ) → T (allowed_modulus m) → 0 < m
 modulus_some m allowed = omega (arith, ((within_range 2 m largest_modulus).0 allowed).0)
 
 module _ (a b : ℤ) (m : ℕ) where
-  abbrev pub found : Solutions
+  abbrev pub found : Option Solutions
   found = solutions_of (residue_of m a) (residue_of m b) m
 
-  abbrev answer : Bool → Solved
-  answer test = cond test (solved_of found) (Refused 2)
-
-  pub answer_is : (test : Bool) → allowed_modulus m ≡ test → congruence_of a b m ≡ answer test
+  pub answer_is : (test : Bool) → allowed_modulus m ≡ test → congruence_of a b m ≡ cond test (Ok found) (Err 2)
   unfolding congruence_of
   answer_is true e = rw e
   answer_is false e = rw e
 
-  pub answer_of_lem : allowed_modulus m ≡ true → {r s : ℕ} → r ≡ residue_of m a → s ≡ residue_of m b → {is : Solutions} → is ≡ solutions_of r s m
-      → solved_of is ≡ congruence_of a b m
+  pub answer_of_lem : allowed_modulus m ≡ true → {r s : ℕ} → r ≡ residue_of m a → s ≡ residue_of m b → {is : Option Solutions}
+      → is ≡ solutions_of r s m → Ok is ≡ congruence_of a b m
   answer_of_lem e left right solves =
-      ap solved_of (solves ∙ ap₂ (λ (x y : ℕ). solutions_of x y m) left right) ∙ sym (answer_is true e)
+      ap Ok (solves ∙ ap₂ (λ (x y : ℕ). solutions_of x y m) left right) ∙ sym (answer_is true e)

@@ -9,6 +9,7 @@ pub mod Whole
 pub mod First
 pub mod Search
 pub mod Lists
+pub mod Chains
 pub mod Solving
 pub mod Claim
 pub mod Combine

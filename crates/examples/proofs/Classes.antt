@@ -4,6 +4,7 @@ use mathlib.Core.List.{List, [], ◌∷◌, ◌++◌}
 use mathlib.Core.Path.{◌≡◌, refl}
 use Prim.Native.Nat.{ℕ}
 use lib.ListN.{replicate}
+use Rattle.std.specs.Prelude.{Ok, Err}
 use Rattle.words.specs.Fronts.{first_length, front_length}
 use Rattle.slices.specs.Pieces.{pieces}
 use Rattle.questions.specs.Reply.{result_of, memory_after}
@@ -16,7 +17,6 @@ use Rattle.ledger.specs.Ledger.{Ledger, unopened, opened}
 use Rattle.ledger.specs.Classes.{claims_in}
 use Rattle.ledger.specs.Calls.{classes, queries}
 use Rattle.ledger.specs.Questions.{refusal_of}
-use Rattle.sheet.specs.declared.classing.Classed.TheVariants.{Claims, Refused}
 use Rattle.sheet.specs.Calls.{marked_of, class_bytes, classed_of, marks_after}
 use Rattle.examples.proofs.Starred.{equation, block}
 
@@ -76,7 +76,7 @@ bytes = refl
 
 -- "bytes past the last claim keep their content"
 pub bytes-kept :
-    (classed_of sheet class (replicate 9 9) ≡ Claims 7)
+    (classed_of sheet class (replicate 9 9) ≡ Ok 7)
     × (marks_after sheet class (replicate 9 9) ≡ 1 ∷ 0 ∷ 0 ∷ 106 ∷ 101 ∷ 101 ∷ 101 ∷ 9 ∷ 9 ∷ [])
 unfolding classed_of marks_after result_of memory_after claims_in pieces marked_of refusal_of words_in claim_of vectors_of line_mark
     line_is_right superfluous_at superfluous describes carries words_for first_length front_length
@@ -101,8 +101,8 @@ just_enough = (refl, refl, refl)
 
 -- nothing is written then; and no words are no claims
 pub nothing_written :
-    (classed_of sheet (strays 3) (9 ∷ 9 ∷ []) ≡ Refused 8) × (marks_after sheet (strays 3) (9 ∷ 9 ∷ []) ≡ 9 ∷ 9 ∷ [])
-    × (classed_of sheet [] [] ≡ Claims 0) × (marks_after sheet [] (9 ∷ []) ≡ 9 ∷ [])
+    (classed_of sheet (strays 3) (9 ∷ 9 ∷ []) ≡ Err 8) × (marks_after sheet (strays 3) (9 ∷ 9 ∷ []) ≡ 9 ∷ 9 ∷ [])
+    × (classed_of sheet [] [] ≡ Ok 0) × (marks_after sheet [] (9 ∷ []) ≡ 9 ∷ [])
 unfolding classed_of marks_after result_of memory_after claims_in pieces marked_of refusal_of words_in carries words_for first_length
     front_length
 nothing_written = (refl, refl, refl, refl)

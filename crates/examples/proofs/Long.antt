@@ -18,11 +18,11 @@ use Rattle.ledger.specs.Ledger.{Ledger, opened}
 use Rattle.ledger.specs.Marking.{claim_mark, claim_reason, reason_words, reason_room}
 use Rattle.ledger.specs.Questions.{refusal_of}
 use Rattle.ledger.specs.Classes.{claims_in}
-use Rattle.sheet.specs.declared.reasoning.Reasoned.TheVariants.{Gives}
 use Rattle.sheet.specs.Calls.{marked_of, class_bytes, reasoned_of, shown_after}
 use Rattle.tape.specs.Output.{mark_line}
 use Rattle.tape.specs.Text.{line}
 use Rattle.examples.proofs.Starred.{equation, block}
+use Rattle.sheet.specs.Calls.{said}
 
 -- ---- mod 4, x + 2·y = 0
 
@@ -114,7 +114,7 @@ printed = refl
 
 -- "and writes no words": an empty buffer will do, and any other "keeps its content"
 pub nothing_written :
-    (reasoned_of free (two 1 2) [] ≡ Gives (Superfluous 2) 0)
+    (reasoned_of free (two 1 2) [] ≡ said (Superfluous 2) 0)
     × (shown_after free (two 1 2) (9 ∷ []) ≡ 9 ∷ [])
 unfolding reasoned_of shown_after result_of memory_after reason_words line_shown words_in claim_of vectors_of line_reason line_solvable
     line_is_right superfluous_at superfluous describes carries words_for reason_room

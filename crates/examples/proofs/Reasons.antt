@@ -5,6 +5,7 @@ use mathlib.Core.List.{List, [], ◌∷◌}
 use mathlib.Core.Path.{◌≡◌, refl}
 use Prim.Native.Nat.{ℕ}
 use lib.ListN.{replicate}
+use Rattle.std.specs.Prelude.{Err}
 use Rattle.questions.specs.Reply.{result_of, memory_after}
 use Rattle.equations.specs.declared.Reason.TheVariants.{Passes, Solvable, Unsolvable, Breaks, Changes, Misses}
 use Rattle.equations.specs.Answer.{start_of}
@@ -19,9 +20,9 @@ use Rattle.ledger.specs.Ledger.{Ledger, unopened, opened}
 use Rattle.ledger.specs.Marking.{claim_reason, reason_words, reason_room}
 use Rattle.ledger.specs.Calls.{reasons, queries}
 use Rattle.ledger.specs.Questions.{refusal_of}
-use Rattle.sheet.specs.declared.reasoning.Reasoned.TheVariants.{Gives, Refused}
 use Rattle.sheet.specs.Calls.{reasoned_of, shown_after}
 use Rattle.examples.proofs.Starred.{equation, block}
+use Rattle.sheet.specs.Calls.{said}
 
 abbrev sheet : Ledger
 sheet = opened 4 2 (lines_mod 4 (equation (1 ∷ 2 ∷ []) 0 ∷ []))
@@ -71,7 +72,7 @@ no_start_looked_at = (refl, refl, refl)
 
 -- a solution in words of kind 6 without a head, and what is past it kept
 pub solution-written :
-    (reasoned_of sheet (block 0 []) (9 ∷ 9 ∷ 9 ∷ []) ≡ Gives Solvable 2)
+    (reasoned_of sheet (block 0 []) (9 ∷ 9 ∷ 9 ∷ []) ≡ said Solvable 2)
     × (shown_after sheet (block 0 []) (9 ∷ 9 ∷ 9 ∷ []) ≡ word entry_kind 0 ∷ word entry_kind 0 ∷ 9 ∷ [])
 unfolding reasoned_of shown_after result_of memory_after reason_words line_shown start_of words_in claim_of vectors_of line_reason line_solvable
     carries words_for reason_room
@@ -79,9 +80,9 @@ solution-written = (refl, refl)
 
 -- "where the reason has none, or the claim passes, the buffer keeps its content": it may be empty
 pub nothing_written :
-    (reasoned_of sheet (block 1 (1 ∷ 0 ∷ [])) [] ≡ Gives (Breaks 1) 0)
-    × (reasoned_of sheet (block 2 (0 ∷ 0 ∷ 1 ∷ 0 ∷ [])) [] ≡ Gives (Changes 1 1) 0)
-    × (reasoned_of sheet (block 2 (0 ∷ 0 ∷ 2 ∷ 3 ∷ [])) [] ≡ Gives Passes 0)
+    (reasoned_of sheet (block 1 (1 ∷ 0 ∷ [])) [] ≡ said (Breaks 1) 0)
+    × (reasoned_of sheet (block 2 (0 ∷ 0 ∷ 1 ∷ 0 ∷ [])) [] ≡ said (Changes 1 1) 0)
+    × (reasoned_of sheet (block 2 (0 ∷ 0 ∷ 2 ∷ 3 ∷ [])) [] ≡ said Passes 0)
     × (shown_after sheet (block 2 (0 ∷ 0 ∷ 2 ∷ 3 ∷ [])) (9 ∷ []) ≡ 9 ∷ [])
 unfolding reasoned_of shown_after result_of memory_after reason_words line_shown words_in claim_of vectors_of line_reason line_solvable
     line_is_right superfluous_at superfluous describes carries words_for reason_room
@@ -101,7 +102,7 @@ turned_away_lem = (refl, refl, refl, refl, refl)
 
 -- nothing is written then
 pub kept_at_eight :
-    (reasoned_of sheet (block 0 []) (9 ∷ []) ≡ Refused 8) × (shown_after sheet (block 0 []) (9 ∷ []) ≡ 9 ∷ [])
+    (reasoned_of sheet (block 0 []) (9 ∷ []) ≡ Err 8) × (shown_after sheet (block 0 []) (9 ∷ []) ≡ 9 ∷ [])
 unfolding reasoned_of shown_after result_of memory_after reason_words line_shown start_of words_in claim_of vectors_of line_reason line_solvable
     carries words_for reason_room
 kept_at_eight = (refl, refl)

@@ -15,11 +15,10 @@ use Rattle.residue.specs.Residue.{residue_of}
 use Rattle.residue.specs.Euclid.{euclid}
 use Rattle.residue.specs.Gcd.{gcd}
 use Rattle.residue.specs.Bezout.{cofactors}
-use Rattle.residue.specs.declared.congruence.Solutions.TheVariants.{Spaced}
 use Rattle.residue.proofs.Congruent.{congruent_refl, congruent_add}
 use Rattle.residue.proofs.Solutions.{solutions_are, solutions_describe}
-use Rattle.congruence.specs.declared.Solved.TheVariants.{Solutions}
-use Rattle.congruence.specs.Congruence.{solved_of, congruence_of}
+use Rattle.std.specs.Prelude.{Ok}
+use Rattle.congruence.specs.Congruence.{congruence_of}
 use Rattle.words.specs.Words.{word, words_in, coefficient_kind, right_kind, minus_coefficient_kind, minus_right_kind, carries, words_for}
 use Rattle.equations.specs.Line.{lines_mod}
 use Rattle.ledger.specs.Ledger.{Ledger, unopened, opened}
@@ -29,6 +28,8 @@ use Rattle.ledger.specs.History.{enter, ledger_from, ledger}
 use Rattle.tape.specs.FirstCall.{first_call, behind_first}
 use Rattle.examples.proofs.Starred.{equation, opening}
 use Rattle.examples.proofs.Typed.{full}
+use Rattle.residue.specs.Congruence.{spaced}
+use Rattle.congruence.specs.Congruence.{solved}
 
 -- ---- residues
 
@@ -76,12 +77,12 @@ found_is =
     let d = solutions_describe 65534 1 65535 (omega arith) (ap (λ (g : ℕ). 1 % g) coprime) in
     only_one found d.solves d.small
 
-pub minus_t_is_one : congruence_of (neg_ℤ (pos 1)) (pos 1) 65535 ≡ Solutions 65534 65535
+pub minus_t_is_one : congruence_of (neg_ℤ (pos 1)) (pos 1) 65535 ≡ solved 65534 65535
 unfolding congruence_of residue_of negative
 minus_t_is_one =
-    ap solved_of
+    ap Ok
     (solutions_are 65534 1 65535 (omega arith) (ap (λ (g : ℕ). 1 % g) coprime)
-    ∙ ap₂ Spaced found_is (ap (λ (g : ℕ). 65535 / g) coprime))
+    ∙ ap₂ spaced found_is (ap (λ (g : ℕ). 65535 / g) coprime))
 
 -- ---- adding, mod 12 with 2 unknowns
 

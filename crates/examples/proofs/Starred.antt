@@ -11,6 +11,7 @@ use native.Mathlib.Omega.{arith}
 use lib.Dec.{T}
 use lib.IntN.{pos}
 use lib.ListN.{length, drop}
+use Rattle.std.specs.Prelude.{Result, Ok, None}
 use Rattle.slices.proofs.Over.{over-whole}
 use Rattle.questions.specs.Reply.{memory_after}
 use Rattle.residue.specs.Congruent.{Congruent}
@@ -18,8 +19,8 @@ use Rattle.residue.specs.Residue.{residue_of}
 use Rattle.residue.specs.Congruence.{least_of, solutions_of}
 use Rattle.residue.specs.Euclid.{euclid}
 use Rattle.residue.specs.Gcd.{gcd}
-use Rattle.congruence.specs.declared.Solved.TheVariants.{NoSolution, Solutions}
 use Rattle.congruence.specs.Congruence.{congruence_of}
+use Rattle.equations.specs.declared.Mark.{Mark}
 use Rattle.equations.specs.declared.Mark.TheVariants.{Pass, Fail}
 use Rattle.equations.specs.Vectors.{Below}
 use Rattle.equations.specs.Equation.{Equation}
@@ -45,11 +46,10 @@ use Rattle.ledger.specs.Ledger.{opened}
 use Rattle.ledger.specs.Block.{answer_words, answer_room}
 use Rattle.ledger.specs.Calls.{opens, adds, strikes, Call, enters}
 use Rattle.ledger.specs.Questions.{refusal_of}
-use Rattle.sheet.specs.declared.marking.Marked.{Marked}
-use Rattle.sheet.specs.declared.marking.Marked.TheVariants.{Gets}
 use Rattle.sheet.specs.Record.{fresh, ledger_of}
 use Rattle.sheet.specs.Calls.{sheet_after, buffer_after, marked_of}
 use Rattle.sheet.specs.History.{after, sheet_from}
+use Rattle.congruence.specs.Congruence.{solved}
 
 -- coefficients and a right side, as the paper writes an equation
 abbrev pub equation : List ℕ → ℕ → Equation
@@ -75,11 +75,11 @@ abbrev pub buffer : List Call → List ℕ → List ℕ
 buffer calls old = buffer_after (ledger_of (after calls)) old
 
 -- what marking says after the calls
-abbrev pub marked : List Call → List ℕ → Marked
+abbrev pub marked : List Call → List ℕ → Result Mark ℕ
 marked calls claim = marked_of (ledger_of (after calls)) claim
 
 -- "m=12: 4t=8 gives 2, spacing 3."
-pub four_t_is_eight : congruence_of (pos 4) (pos 8) 12 ≡ Solutions 2 3
+pub four_t_is_eight : congruence_of (pos 4) (pos 8) 12 ≡ solved 2 3
 unfolding congruence_of residue_of solutions_of least_of gcd euclid
 four_t_is_eight = refl
 
@@ -87,7 +87,7 @@ four_t_is_eight = refl
 abbrev pub four_is_six : List Equation
 four_is_six = equation (4 ∷ []) 6 ∷ []
 
-pub four_t_is_six : congruence_of (pos 4) (pos 6) 12 ≡ NoSolution
+pub four_t_is_six : congruence_of (pos 4) (pos 6) 12 ≡ (Ok None)
 unfolding congruence_of residue_of solutions_of gcd euclid
 four_t_is_six = refl
 
@@ -147,12 +147,12 @@ unfolding sheet_from fresh sheet_after ledger_of buffer_after memory_after refus
     line_start line_steps flatten carries words_for answer_room
 one_two_is_zero_answered x = refl
 
-pub step_two_three_marked : marked one_two_is_zero_calls (block 2 (0 ∷ 0 ∷ 2 ∷ 3 ∷ [])) ≡ Gets Pass
+pub step_two_three_marked : marked one_two_is_zero_calls (block 2 (0 ∷ 0 ∷ 2 ∷ 3 ∷ [])) ≡ Ok Pass
 unfolding sheet_from fresh sheet_after ledger_of marked_of refusal_of words_in residue_of equations_of claim_of vectors_of line_mark
     line_is_right superfluous_at superfluous describes carries words_for
 step_two_three_marked = refl
 
-pub step_zero_two_marked : marked one_two_is_zero_calls (block 2 (0 ∷ 0 ∷ 0 ∷ 2 ∷ [])) ≡ Gets Fail
+pub step_zero_two_marked : marked one_two_is_zero_calls (block 2 (0 ∷ 0 ∷ 0 ∷ 2 ∷ [])) ≡ Ok Fail
 unfolding sheet_from fresh sheet_after ledger_of marked_of refusal_of words_in residue_of equations_of claim_of vectors_of line_mark
     line_is_right superfluous_at superfluous describes carries words_for
 step_zero_two_marked = refl

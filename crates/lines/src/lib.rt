@@ -10,6 +10,7 @@ ghost use Rattle.equations.specs.Vectors.{Below};
 ghost use Rattle.equations.specs.Lines.{equations_of};
 ghost use Rattle.lines.specs.Stored.{multiples, all_fit};
 
+use equations::testing::every;
 use questions::is_own_modulus;
 use slices::copying::copy;
 
@@ -25,15 +26,14 @@ pub fn scale_into(m: u32, q: u32, line: &[u32], out: &mut [u32])
     multiply_into(m / q, line, out);
 }
 
-// Each number times k, at the front of out.
+// Each number times k, at the front of out. (By the index: of what is written through
+// `iter_mut().zip(..)` a proof knows the length alone.)
 fn multiply_into(k: u32, line: &[u32], out: &mut [u32])
     requires { Below 4294967296 (map (λ (a : ℕ). k * a) line.now) × (length line.now ≤ length out.old) }
     ensures { out.new ≡ over (map (λ (a : ℕ). k * a) line.now) out.old }
 {
-    let mut i: usize = 0;
-    while i < line.len() {
-        out[i] = k * line[i];
-        i += 1;
+    for (i, number) in line.iter().enumerate() {
+        out[i] = k * *number;
     }
 }
 
@@ -42,24 +42,14 @@ pub fn lines_fit(m: u32, n: usize, moduli: &[u32], numbers: &[u32]) -> bool
     requires { (2 ≤ m) × (n ≤ 16) × (length numbers.now ≡ length moduli.now * (n + 1)) }
     ensures { result ≡ all_fit m moduli.now (equations_of n numbers.now) }
 {
-    if all_are(m, moduli) {
-        return true;
-    }
-    each_fits(m, n, moduli, numbers)
+    all_are(m, moduli) || each_fits(m, n, moduli, numbers)
 }
 
-// There are few moduli: the first other one ends the loop.
+// There are few moduli: the first other one ends the chain, which `every` would not.
 fn all_are(m: u32, moduli: &[u32]) -> bool
     ensures { result ≡ every (λ (q : ℕ). eqb q m) moduli.now }
 {
-    let mut i: usize = 0;
-    while i < moduli.len() {
-        if moduli[i] != m {
-            return false;
-        }
-        i += 1;
-    }
-    true
+    moduli.iter().all(|q| *q == m)
 }
 
 // One line after the other.
@@ -67,15 +57,10 @@ fn each_fits(m: u32, n: usize, moduli: &[u32], numbers: &[u32]) -> bool
     requires { (2 ≤ m) × (n ≤ 16) × (length numbers.now ≡ length moduli.now * (n + 1)) }
     ensures { result ≡ all_fit m moduli.now (equations_of n numbers.now) }
 {
-    let width = n + 1;
-    let mut rest = &numbers[..];
-    let mut i: usize = 0;
-    while i < moduli.len() {
-        if !line_fits(m, moduli[i], &rest[..width]) {
+    for (q, line) in moduli.iter().zip(numbers.chunks_exact(n + 1)) {
+        if !line_fits(m, *q, line) {
             return false;
         }
-        rest = &rest[width..];
-        i += 1;
     }
     true
 }
@@ -85,26 +70,13 @@ fn line_fits(m: u32, q: u32, line: &[u32]) -> bool
     requires { 2 ≤ m }
     ensures { result ≡ (allowed_own m q && multiples (m / q) line.now) }
 {
-    if q == m {
-        return true;
-    }
-    if !is_own_modulus(m, q) {
-        return false;
-    }
-    all_multiples(m / q, line)
+    q == m || (is_own_modulus(m, q) && all_multiples(m / q, line))
 }
 
-// No way out of the loop before its end: so it takes several numbers at once.
+// Whether all numbers are multiples of k.
 fn all_multiples(k: u32, line: &[u32]) -> bool
     requires { 0 < k }
     ensures { result ≡ multiples k line.now }
 {
-    let mut all = true;
-    let mut i: usize = 0;
-    while i < line.len() {
-        let whole = line[i] % k == 0;
-        all = all & whole;
-        i += 1;
-    }
-    all
+    every(line, |number| number % k == 0)
 }

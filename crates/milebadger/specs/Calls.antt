@@ -1,36 +1,23 @@
 -- What each call of the C face has to say, and how it reaches a C caller: as a signed result, and as numbers in the memory that the caller
 -- lent. Definitions only.
-use Rattle.std.specs.Prelude.{◌≡◌, ℕ, ◌+◌, ◌/◌, ◌%◌, cond, List, [], ◌∷◌, ◌++◌, eqb, leb, ℤ, pos, neg_ℤ, length}
+use Rattle.std.specs.Prelude.{◌≡◌, ℕ, ◌+◌, ◌/◌, ◌%◌, cond, List, [], ◌∷◌, ◌++◌, eqb, leb, ℤ, pos, neg_ℤ, length, Option, Some, None, Result, Ok, Err}
 use Rattle.residue.specs.Chain.{chain_of}
 use Rattle.questions.specs.Questions.{Question, asks, first_no, unless_refused, allowed_modulus}
 use Rattle.questions.specs.Reply.{Reply, gives, refuses, result_of, memory_after}
 use Rattle.slices.specs.Over.{over}
-use Rattle.congruence.specs.declared.Solved.{Solved}
-use Rattle.congruence.specs.declared.Solved.TheVariants.{Refused, NoSolution, Solutions}
+use Rattle.residue.specs.declared.congruence.Solutions.{Solutions}
 use Rattle.congruence.specs.Congruence.{congruence_of}
 use Rattle.equations.specs.Lines.{equations_of}
 use Rattle.equations.specs.Multipliers.{all_below}
+use Rattle.equations.specs.declared.Mark.{Mark}
 use Rattle.equations.specs.Marks.{mark_number}
 use Rattle.equations.specs.Reasons.{reason_number, places_in}
 use Rattle.system.specs.Block.{block_of}
 use Rattle.ledger.specs.Ledger.{Ledger, most_equations}
 use Rattle.ledger.specs.Calls.{marks, queries}
 use Rattle.ledger.specs.Questions.{allowed_unknowns, refusal_of}
-use Rattle.sheet.specs.declared.Entered.{Entered}
-use Rattle.sheet.specs.declared.Entered.TheVariants.{Holds, Refused as Entered-as-Refused}
-use Rattle.sheet.specs.declared.answering.Answered.{Answered}
-use Rattle.sheet.specs.declared.answering.Answered.TheVariants.{Wrote as Answered-as-Wrote, Refused as Answered-as-Refused}
-use Rattle.sheet.specs.declared.marking.Marked.{Marked}
-use Rattle.sheet.specs.declared.marking.Marked.TheVariants.{Gets, Refused as Marked-as-Refused}
 use Rattle.sheet.specs.declared.reasoning.Reasoned.{Reasoned}
-use Rattle.sheet.specs.declared.reasoning.Reasoned.TheVariants.{Gives, Refused as Reasoned-as-Refused}
-use Rattle.sheet.specs.declared.classing.Classed.{Classed}
-use Rattle.sheet.specs.declared.classing.Classed.TheVariants.{Claims, Refused as Classed-as-Refused}
 use Rattle.sheet.specs.Calls.{reasoned_of, shown_after}
-use Rattle.setting.specs.declared.Made.{Made}
-use Rattle.setting.specs.declared.Made.TheVariants.{Lines, Refused as Made-as-Refused}
-use Rattle.safe.specs.declared.Turned.{Turned}
-use Rattle.safe.specs.declared.Turned.TheVariants.{Wrote, NoTurns, Refused as Turned-as-Refused}
 use Rattle.tape.specs.Output.{most_bytes, lines}
 
 -- a refusal as a result: minus its number
@@ -41,44 +28,37 @@ minus k = neg_ℤ (pos k)
 abbrev pub version : ℕ
 version = 40000
 
--- What the calls on a sheet give back, as a result: "the equations then held", how many memory words the block has, 1 for a pass, 2 for a
--- long claim and 0 for a fail, or how many claims a class has; or minus the number of the refusal.
-unfoldable pub entered_result : Entered → ℤ
-entered_result (Holds k) = pos k
-entered_result (Entered-as-Refused k) = minus k
+-- What a call that counts gives back, as a result: "the equations then held", how many memory words the block has, how many claims a class
+-- has, or "the number of equations" that are made for a claim; or minus the number of the refusal.
+unfoldable pub counted_result : Result ℕ ℕ → ℤ
+counted_result (Ok k) = pos k
+counted_result (Err k) = minus k
 
-unfoldable pub answered_result : Answered → ℤ
-answered_result (Answered-as-Wrote k) = pos k
-answered_result (Answered-as-Refused k) = minus k
-
-unfoldable pub marked_result : Marked → ℤ
-marked_result (Gets mark) = pos (mark_number mark)
-marked_result (Marked-as-Refused k) = minus k
-
-unfoldable pub classed_result : Classed → ℤ
-classed_result (Claims k) = pos k
-classed_result (Classed-as-Refused k) = minus k
+-- 1 for a pass, 2 for a long claim and 0 for a fail
+unfoldable pub marked_result : Result Mark ℕ → ℤ
+marked_result (Ok mark) = pos (mark_number mark)
+marked_result (Err k) = minus k
 
 -- A reason's number, which is 0 for a claim that passes and 6 for a long one.
-unfoldable pub reasoned_result : Reasoned → ℤ
-reasoned_result (Gives reason k) = pos (reason_number reason)
-reasoned_result (Reasoned-as-Refused k) = minus k
+unfoldable pub reasoned_result : Result Reasoned ℕ → ℤ
+reasoned_result (Ok reasoned) = pos (reason_number reasoned.reason)
+reasoned_result (Err k) = minus k
 
 -- A reason has a second lent memory, `at`, for the step, the equation and the number of memory words. Where it has fewer than 3 numbers, the claim is
 -- turned away with 8, behind the questions of marking, and nothing is written.
 abbrev pub place_room : ℕ
 place_room = 3
 
-abbrev pub without_places : Ledger → List ℕ → Reasoned
-without_places l ws = unless_refused Reasoned-as-Refused (refusal_of l (queries (marks ws))) (Reasoned-as-Refused 8)
+abbrev pub without_places : Ledger → List ℕ → Result Reasoned ℕ
+without_places l ws = unless_refused Err (refusal_of l (queries (marks ws))) (Err 8)
 
 -- what is said of the claim in ws, and what `at` and `out` then hold; at a refusal both keep their content
-unfoldable pub reason_said : Ledger → List ℕ → List ℕ → List ℕ → Reasoned
+unfoldable pub reason_said : Ledger → List ℕ → List ℕ → List ℕ → Result Reasoned ℕ
 reason_said l ws at out = cond (leb place_room (length at)) (reasoned_of l ws out) (without_places l ws)
 
-unfoldable pub places_after : Reasoned → List ℕ → List ℕ
-places_after (Gives reason k) at = over (places_in reason ++ (k ∷ [])) at
-places_after (Reasoned-as-Refused k) at = at
+unfoldable pub places_after : Result Reasoned ℕ → List ℕ → List ℕ
+places_after (Ok reasoned) at = over (places_in reasoned.reason ++ (reasoned.words ∷ [])) at
+places_after (Err k) at = at
 
 unfoldable pub reason_after : Ledger → List ℕ → List ℕ → List ℕ → List ℕ
 reason_after l ws at out = cond (leb place_room (length at)) (shown_after l ws out) out
@@ -93,10 +73,10 @@ unfoldable pub gcd_reply : ℕ → ℕ → Reply ℤ
 gcd_reply a b = gives (pos 1) ((chain_of a b).divisor ∷ (chain_of a b).divisions ∷ [])
 
 -- 1, and the least solution with the spacing; 0 for none; or the refusal
-unfoldable pub solved_reply : Solved → Reply ℤ
-solved_reply (Refused k) = refuses k
-solved_reply NoSolution = gives (pos 0) []
-solved_reply (Solutions t spacing) = gives (pos 1) (t ∷ spacing ∷ [])
+unfoldable pub solved_reply : Result (Option Solutions) ℕ → Reply ℤ
+solved_reply (Err k) = refuses k
+solved_reply (Ok None) = gives (pos 0) []
+solved_reply (Ok (Some solutions)) = gives (pos 1) (solutions.least ∷ solutions.spacing ∷ [])
 
 abbrev pub congruence_reply : ℤ → ℤ → ℕ → Reply ℤ
 congruence_reply a b m = solved_reply (congruence_of a b m)
@@ -122,15 +102,10 @@ solve_reply m n xs =
     unless_refused refuses (first_no (solve_questions m n xs)) (block_reply (block_of m n (equations_of n xs)))
 
 -- what the safe's call gives back, as a result: the memory words written, 0 for none, or minus the number of the refusal
-unfoldable pub turned_result : Turned → ℤ
-turned_result (Wrote k) = pos k
-turned_result NoTurns = pos 0
-turned_result (Turned-as-Refused k) = minus k
-
--- what the call that makes a sheet for a claim gives back, as a result: "The result carries the number of equations"
-unfoldable pub made_result : Made → ℤ
-made_result (Lines k) = pos k
-made_result (Made-as-Refused k) = minus k
+unfoldable pub turned_result : Result (Option ℕ) ℕ → ℤ
+turned_result (Ok (Some k)) = pos k
+turned_result (Ok None) = pos 0
+turned_result (Err k) = minus k
 
 -- "C call: 10 as for the tape." Its other question, 8, every reply asks.
 abbrev pub tape_questions : List ℕ → List Question

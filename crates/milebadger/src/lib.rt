@@ -6,17 +6,21 @@ mod reasoning;
 mod replying;
 pub mod sheets;
 
-ghost use Rattle.std.specs.Prelude.{◌≡◌};
+ghost use Rattle.std.specs.Prelude.{◌≡◌, ◌+◌, ◌*◌, ◌≤◌};
+ghost use Rattle.equations.specs.Lines.{equations_of};
+ghost use Rattle.system.specs.Block.{block_of};
+ghost use Rattle.system.specs.Posed.{Posed};
 ghost use Rattle.setting.specs.Calls.{made_of, sheet_after};
 ghost use Rattle.safe.specs.Calls.{turned_of, buffer_after};
-ghost use Rattle.milebadger.specs.Calls.{version, Replied, gcd_reply, congruence_reply, solve_reply, tape_reply, made_result, turned_result};
+ghost use Rattle.milebadger.specs.Calls.{version, Replied, block_reply, gcd_reply, congruence_reply, solve_reply, tape_reply, counted_result, turned_result};
 
-use congruence::{Solved, solve as solve_one};
+use congruence::solve as solve_one;
 use posing::refusal;
-use replying::{TOO_SHORT, give, give_block, refuse};
+use questions::Refusal;
+use replying::{counted, give, give_block, refuse};
 use residue::euclid::gcd;
-use safe::{Turned, solve as solve_safe};
-use setting::{Made, sheet_for};
+use safe::solve as solve_safe;
+use setting::sheet_for;
 use system::limits::ENTRIES;
 use system::solving::solve_into;
 use tape::running::{LARGEST, count, write};
@@ -51,14 +55,13 @@ pub extern "C" fn milebadger_gcd(a: u32, b: u32, out: &mut [u32]) -> i64
 pub extern "C" fn milebadger_congruence(a: i32, b: i32, m: u32, out: &mut [u32]) -> i64
     ensures { Replied (congruence_reply a b m) out.old out.new result }
 {
-    let solved = solve_one(a, b, m);
-    match solved {
-        Solved::Refused(number) => refuse(number),
-        Solved::NoSolution => 0,
-        Solved::Solutions(t, spacing) => {
-            let numbers = [t, spacing];
+    match solve_one(a, b, m) {
+        Ok(None) => 0,
+        Ok(Some(solutions)) => {
+            let numbers = [solutions.least, solutions.spacing];
             give(1, &numbers, out)
         }
+        Err(refusal) => refuse(refusal),
     }
 }
 
@@ -68,17 +71,23 @@ pub extern "C" fn milebadger_congruence(a: i32, b: i32, m: u32, out: &mut [u32])
 pub extern "C" fn milebadger_solve(m: u32, n: u32, lines: &[u32], out: &mut [u32]) -> i64
     ensures { Replied (solve_reply m n lines.now) out.old out.new result }
 {
-    let number = refusal(m, n, lines);
-    if number != 0 {
-        return refuse(number);
+    if let Err(refusal) = refusal(m, n, lines) {
+        return refuse(refusal);
     }
+    let unknowns = n as usize;
     if n <= FEW {
-        let mut few = [0u32; FEW_NUMBERS];
-        let block = solve_into(m, n as usize, lines, &mut few);
-        return give_block(block.head, &few[..block.len], out);
+        return give_answer::<FEW_NUMBERS>(m, unknowns, lines, out);
     }
-    let mut numbers = [0u32; ENTRIES];
-    let block = solve_into(m, n as usize, lines, &mut numbers);
+    give_answer::<ENTRIES>(m, unknowns, lines, out)
+}
+
+// The answer block of equations that no question turns away, which has at most ROOM numbers behind its head.
+fn give_answer<const ROOM: usize>(m: u32, n: usize, lines: &[u32], out: &mut [u32]) -> i64
+    requires { Posed m n lines.now × (n + n * n ≤ ROOM) × (16 ≤ ROOM) × (ROOM ≤ 272) }
+    ensures { Replied (block_reply (block_of m n (equations_of n lines.now))) out.old out.new result }
+{
+    let mut numbers = [0u32; ROOM];
+    let block = solve_into(m, n, lines, &mut numbers);
     give_block(block.head, &numbers[..block.len], out)
 }
 
@@ -94,25 +103,20 @@ pub extern "C" fn milebadger_safe(
     ensures value { result ≡ turned_result (turned_of m rows columns values.now out.old) }
     ensures out_after { out.new ≡ buffer_after m rows columns values.now out.old }
 {
-    let turned = solve_safe(m, rows, columns, values, out);
-    match turned {
-        Turned::Wrote(words) => words as i64,
-        Turned::NoTurns => 0,
-        Turned::Refused(number) => refuse(number),
+    match solve_safe(m, rows, columns, values, out) {
+        Ok(Some(words)) => words as i64,
+        Ok(None) => 0,
+        Err(refusal) => refuse(refusal),
     }
 }
 
 // A sheet for a wanted answer: at most n equations mod m that just the vectors of a claim solve, as words that an add takes.
 #[unsafe(no_mangle)]
 pub extern "C" fn milebadger_sheet_for(m: u32, n: u32, claim: &[u32], out: &mut [u32]) -> i64
-    ensures value { result ≡ made_result (made_of m n claim.now out.old) }
+    ensures value { result ≡ counted_result (made_of m n claim.now out.old) }
     ensures out_after { out.new ≡ sheet_after m n claim.now out.old }
 {
-    let made = sheet_for(m, n, claim, out);
-    match made {
-        Made::Lines(count) => count as i64,
-        Made::Refused(number) => refuse(number),
-    }
+    counted(sheet_for(m, n, claim, out))
 }
 
 // A tape of calls from a fresh sheet: its lines. Where they do not all fit, nothing is written.
@@ -121,11 +125,11 @@ pub extern "C" fn milebadger_tape(tape: &[u8], out: &mut [u8]) -> i64
     ensures { Replied (tape_reply tape.now) out.old out.new result }
 {
     if tape.len() > LARGEST {
-        return refuse(10);
+        return refuse(Refusal::Tape);
     }
     let size = count(tape);
     if out.len() < size {
-        return TOO_SHORT;
+        return refuse(Refusal::Buffer);
     }
     write(tape, out);
     size as i64

@@ -5,10 +5,10 @@ ghost use Rattle.equations.specs.Reasons.{reason_number, places_in};
 ghost use Rattle.sheet.specs.Record.{ledger_of};
 ghost use Rattle.milebadger.specs.Calls.{reasoned_result, place_room, without_places};
 
-use crate::replying::{TOO_SHORT, refuse};
+use crate::replying::refuse;
 use equations::Reason;
+use questions::Refusal;
 use sheet::Sheet;
-use sheet::marking::Marked;
 
 // The step, the equation and the number of words.
 pub(crate) const PLACES: usize = 3;
@@ -25,10 +25,9 @@ struct Named {
 pub(crate) fn places_missing(sheet: &[u32; Sheet::SIZE], words: &[u32]) -> i64
     ensures { result ≡ reasoned_result (without_places (ledger_of sheet.now) words.now) }
 {
-    let marked = Sheet::mark(sheet, words);
-    match marked {
-        Marked::Gets(mark) => TOO_SHORT,
-        Marked::Refused(number) => refuse(number),
+    match Sheet::mark(sheet, words) {
+        Ok(_) => refuse(Refusal::Buffer),
+        Err(refusal) => refuse(refusal),
     }
 }
 
@@ -42,9 +41,10 @@ pub(crate) fn give_reason(reason: Reason, written: usize, at: &mut [u32]) -> i64
     at[0] = named.step;
     at[1] = named.equation;
     at[2] = written as u32;
-    named.number as i64
+    i64::from(named.number)
 }
 
+// One match, and not three methods of `Reason` with seven arms each.
 fn named_by(reason: Reason) -> Named
     ensures { (result.number ≡ reason_number reason) × (result.step ∷ result.equation ∷ [] ≡ places_in reason) }
 {

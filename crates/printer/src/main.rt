@@ -4,26 +4,23 @@
 // A read or a write that fails ends the run, is said on standard error, and gives status 1.
 #![tactic(auto)]
 
-ghost use Rattle.std.specs.Prelude.{◌≡◌, ◌<◌, ◌≤◌, false, length, take, OnOk};
+ghost use Rattle.std.specs.Prelude.{◌≡◌, ℕ, ◌<◌, ◌≤◌, length, take, OnOk, IfOk, MatchResult};
 ghost use Rattle.std.specs.Io.KnownBytes.{Appends, Consumes, IsAtEnd};
 ghost use Rattle.tape.specs.Output.{lines, most_bytes};
 
-use sheet::Sheet;
 use std::io;
 use std::io::{Read, Write};
 use std::process::ExitCode;
-use tape::calling::{CALL_ROOM, next};
-use tape::running::{LARGEST, left_over};
+use tape::running::{LARGEST, Run};
 
 // A tape that is too long shows in one byte more than it may have.
 fn main(rt: HostRuntime) -> ExitCode {
     let mut tape = [0u8; LARGEST + 1];
-    let input = read_all(&mut rt.stdin(), &mut tape);
-    if input.failed {
+    let Ok(n) = read_all(&mut rt.stdin(), &mut tape) else {
         return complain(&rt, "standard input could not be read");
-    }
-    let n = input.count;
+    };
     let mut out = rt.stdout();
+    // a constant line; tape's own are those of calls
     let written = if n > LARGEST {
         out.write_all(b"refused 10\n")
     } else {
@@ -41,55 +38,36 @@ fn complain(rt: &impl Eprint, what: &str) -> ExitCode {
     ExitCode::FAILURE
 }
 
-// What was read: how many bytes, and whether a read failed.
-#[derive(Clone, Copy)]
-struct Input {
-    count: usize,
-    failed: bool,
-}
-
-// Reads until the input ends, the memory is full or a read fails.
-fn read_all<R: Read>(input: &mut R, tape: &mut [u8]) -> Input
-    ensures fits { result.count ≤ length tape.new }
-    ensures taken { result.count ≡ length (take result.count tape.new) }
-    ensures bytes { Consumes (R.remaining input.old) (R.remaining input.new) (take result.count tape.new) }
-    ensures end { result.failed ≡ false → result.count < length tape.new → IsAtEnd (R.remaining input.new) }
+// Reads until the input ends, the memory is full or a read fails; how many bytes were read. Where a read fails, those before it are
+// still at the front of the memory.
+fn read_all<R: Read>(input: &mut R, tape: &mut [u8]) -> io::Result<usize>
+    ensures fits { IfOk result (λ n. n ≤ length tape.new) }
+    ensures taken { IfOk result (λ n. n ≡ length (take n tape.new)) }
+    ensures bytes { MatchResult result (λ n. Consumes (R.remaining input.old) (R.remaining input.new) (take n tape.new))
+        (λ _. (n : ℕ) × (n ≤ length tape.new) × (n ≡ length (take n tape.new))
+        × Consumes (R.remaining input.old) (R.remaining input.new) (take n tape.new)) }
+    ensures end { IfOk result (λ n. n < length tape.new → IsAtEnd (R.remaining input.new)) }
 {
     let mut count = 0;
+    // No `for`: a read gives any number of bytes, and the next one goes behind them.
     while count < tape.len() {
-        match input.read(&mut tape[count..]) {
-            Ok(0) => return Input {
-                count,
-                failed: false,
-            },
-            Ok(more) => count += more,
-            Err(_) => return Input {
-                count,
-                failed: true,
-            },
+        let more = input.read(&mut tape[count..])?;
+        if more == 0 {
+            break;
         }
+        count += more;
     }
-    Input {
-        count,
-        failed: false,
-    }
+    Ok(count)
 }
 
-// A call at a time, then the line of the bytes left over. No call is made after a failed write.
+// A call's lines at a time. No call is made after a failed write.
 fn print<W: Write>(to: &mut W, tape: &[u8]) -> io::Result<()>
     ensures { length tape.now ≤ most_bytes → OnOk result (Appends (W.contents to.old) (W.contents to.new) (lines tape.now)) }
 {
-    let mut out = [0u8; CALL_ROOM];
-    let fresh = Sheet::fresh();
-    let mut sheet = fresh.numbers;
-    let mut rest = &tape[..];
-    while rest.len() >= 4 {
-        let step = next(&mut sheet, rest, &mut out);
-        let written = step.written;
-        to.write_all(&out[..written])?;
-        let used = step.used;
-        rest = &rest[used..];
+    let mut run = Run::new(tape);
+    // No `for`: what a run lends lies in its own buffer, which an `Iterator` cannot lend.
+    while let Some(told) = run.next_lines() {
+        to.write_all(told)?;
     }
-    let written = left_over(rest, &mut out);
-    to.write_all(&out[..written])
+    Ok(())
 }

@@ -1,65 +1,113 @@
--- Questions asked one after the other.
---   then_asks        one question more, as the code asks it
---   before-none     where nothing is refused then, nothing was before
---   answer-yes      and this question has the answer yes
---   Asked           a number is what these questions give
---   nothing-asked   before the first question
---   then_asked      a question more: where those so far have the answer yes, its own answer decides
---   asked-enough    where one of them turned the call away, those behind them are not asked,
---   asked_on        and where none did, those behind them decide
+-- Questions asked one after the other, each behind a `?`.
+--   number_some     no refusal has the number 0, which stands for none
+--   number_not      so it is not 0
+--   let_in          a question that let the call in has the answer yes
+--   turned_only, turned_no   one that turned it away has its number, and the answer no
+--   let_in_le, turned_lt     so it is with an order that is asked
+--   turned_by       one that turned it away gives its number, whatever stands behind it
+--   answered        the last question decides alone
+--   turned_among, let_in_all   so it is with several questions, where others stand behind them
+--   handed_on       what the exit of a `?` gives is the refusal that it met:
+--   refused_is      by its number,
+--   unless_refused_is   and as what a call gives
 use mathlib.Core.Path.{◌≡◌, refl, sym, ap, ◌∙◌}
 use mathlib.Core.Bool.{Bool, true, false, cond}
 use mathlib.Core.List.{List, [], ◌∷◌, ◌++◌}
-use Prim.Native.Nat.{ℕ, zero, suc, ◌<◌}
+use Prim.Native.Nat.{ℕ, ◌<◌, ◌≤◌}
 use native.Mathlib.Omega.{arith}
-use borrow.Author.Tests.{ne_eqb}
-use lib.Dec.{T, ltb}
-use mir.Facts.{yes_and}
+use borrow.Author.Tests.{ne_eqb, leb-true, leb-false}
+use lib.Dec.{T, leb}
+use Rattle.std.specs.Prelude.{Result, Err, IsErrAnd}
+use Rattle.std.proofs.lemmas.Result.{err_from_is_err_and}
 use Rattle.questions.specs.Questions.{Question, asks, first_no, unless_refused}
-use Rattle.questions.proofs.Questions.{numbered, AllYes, all_yes, first_no_append, numbered_append}
+use Rattle.questions.specs.Refusals.{number_of, refused_with, by_number}
+use Rattle.questions.proofs.Questions.{numbered, first_no_append}
+use Rattle.questions.specs.declared.Refusal.{Refusal}
+use Rattle.questions.specs.declared.Refusal.TheVariants.{Shape, Modulus, Unknowns, Unopened, Full, Number, NothingToStrike, Buffer, LeftOver, Tape, Text, Beyond, NotLinear, Claims, OwnModulus, Place, Top}
 
--- what `ask` gives: the refusal so far, or, where there is none, this question's number if its answer is no
-abbrev pub then_asks : ℕ → ℕ → Bool → ℕ
-then_asks before number answer = unless_refused (λ k. k) before (first_no (asks number answer ∷ []))
+pub number_some : (refusal : Refusal) → 0 < number_of refusal
+number_some Shape = omega arith
+number_some Modulus = omega arith
+number_some Unknowns = omega arith
+number_some Unopened = omega arith
+number_some Full = omega arith
+number_some Number = omega arith
+number_some NothingToStrike = omega arith
+number_some Buffer = omega arith
+number_some LeftOver = omega arith
+number_some Tape = omega arith
+number_some Text = omega arith
+number_some Beyond = omega arith
+number_some NotLinear = omega arith
+number_some Claims = omega arith
+number_some OwnModulus = omega arith
+number_some Place = omega arith
+number_some Top = omega arith
 
-pub before-none : (before number : ℕ) (answer : Bool) → then_asks before number answer ≡ 0 → before ≡ 0
-before-none zero number answer none = refl
-before-none (suc k) number answer none = rw (ne_eqb (suc k) 0 (λ e. omega arith)) at none
+pub number_not : (refusal : Refusal) → number_of refusal ≡ 0 → ⊥
+number_not refusal none = omega (arith, number_some refusal)
 
-pub answer-yes : (before number : ℕ) (answer : Bool) → 0 < number → then_asks before number answer ≡ 0 → T answer
-answer-yes before number true some none = tt
-answer-yes zero number false some none = omega (arith, none)
-answer-yes (suc k) number false some none = omega (arith, before-none (suc k) number false none)
+module _ (k : ℕ) {answer test : Bool} (same : answer ≡ test) where
+  pub let_in : 0 < k → 0 ≡ first_no (asks k answer ∷ []) → test ≡ true
+  let_in some none = sym same ∙ yes answer none
+    where
+      yes : (b : Bool) → 0 ≡ cond b 0 k → b ≡ true
+      yes true e = refl
+      yes false e = absurd (omega arith)
 
-pub record Asked (qs : List Question) (r : ℕ) : Type 0 where
-  pub numbers : T (numbered qs)
-  pub is : r ≡ first_no qs
+  pub turned_by : (refusal : Refusal) (behind : ℕ) → number_of refusal ≡ first_no (asks k answer ∷ [])
+      → number_of refusal ≡ cond test behind k
+  turned_by refusal behind is = no answer is ∙ ap (λ (b : Bool). cond b behind k) same
+    where
+      no : (b : Bool) → number_of refusal ≡ cond b 0 k → number_of refusal ≡ cond b behind k
+      no true e = absurd (omega (arith, number_some refusal))
+      no false e = e
 
-pub nothing-asked : Asked [] 0
-nothing-asked = record { numbers = tt; is = refl }
+  pub turned_no : (refusal : Refusal) → number_of refusal ≡ first_no (asks k answer ∷ []) → test ≡ false
+  turned_no refusal is = sym same ∙ no answer is
+    where
+      no : (b : Bool) → number_of refusal ≡ cond b 0 k → b ≡ false
+      no true e = absurd (number_not refusal e)
+      no false e = refl
 
-module _ {qs : List Question} {before : ℕ} (asked : Asked qs before) where
-  decided : (k number : ℕ) (answer test : Bool) → first_no qs ≡ k → (AllYes qs → answer ≡ test)
-      → unless_refused (λ j. j) k (cond answer 0 number) ≡ unless_refused (λ j. j) k (cond test 0 number)
-  decided zero number answer test none same = rw (same (all_yes qs asked.numbers none))
-  decided (suc k) number answer test some same = rw (ne_eqb (suc k) 0 (λ e. omega arith))
+  pub answered : {r : ℕ} → r ≡ first_no (asks k answer ∷ []) → r ≡ first_no (asks k test ∷ [])
+  answered is = is ∙ ap (λ (b : Bool). cond b 0 k) same
 
-  pub then_asked : (number : ℕ) {r : ℕ} {answer : Bool} → T (ltb 0 number) → (test : Bool) → (AllYes qs → answer ≡ test)
-      → r ≡ then_asks before number answer → Asked (qs ++ (asks number test ∷ [])) r
-  then_asked number {r} {answer} some test same is =
-      record {
-        numbers = numbered_append qs (asks number test ∷ []) asked.numbers (yes_and (ltb 0 number) true some tt);
-        is =
-            is ∙ ap (λ (k : ℕ). unless_refused (λ j. j) k (cond answer 0 number)) asked.is
-            ∙ decided (first_no qs) number answer test refl same
-            ∙ sym (first_no_append qs (asks number test ∷ []) asked.numbers);
-      }
+pub turned_only : (k : ℕ) (answer : Bool) (refusal : Refusal) → number_of refusal ≡ first_no (asks k answer ∷ []) → number_of refusal ≡ k
+turned_only k answer refusal is = go answer is
+  where
+    go : (b : Bool) → number_of refusal ≡ cond b 0 k → number_of refusal ≡ k
+    go true e = absurd (number_not refusal e)
+    go false e = e
 
-  pub asked-enough : (rest : List Question) → (before ≡ 0 → ⊥) → before ≡ first_no (qs ++ rest)
-  asked-enough rest some =
-      asked.is ∙ sym (first_no_append qs rest asked.numbers ∙ rw (ne_eqb (first_no qs) 0 (λ e. some (asked.is ∙ e))))
+pub let_in_le : (k a b : ℕ) → 0 < k → 0 ≡ first_no (asks k (leb a b) ∷ []) → a ≤ b
+let_in_le k a b some none = leb-true a b (let_in k refl some none)
 
-  pub asked_on : (rest : List Question) → before ≡ 0 → first_no rest ≡ first_no (qs ++ rest)
-  asked_on rest none =
-      sym (first_no_append qs rest asked.numbers
-      ∙ ap (λ (k : ℕ). unless_refused (λ j. j) k (first_no rest)) (sym asked.is ∙ none))
+pub turned_lt : (k a b : ℕ) (refusal : Refusal) → number_of refusal ≡ first_no (asks k (leb a b) ∷ []) → b < a
+turned_lt k a b refusal is = leb-false a b (turned_no k refl refusal is)
+
+pub turned_among : (refusal : Refusal) (qs rest : List Question) → number_of refusal ≡ first_no qs
+    → number_of refusal ≡ first_no (qs ++ rest)
+turned_among refusal [] rest is = absurd (omega (arith, number_some refusal))
+turned_among refusal (q ∷ qs) rest is = go q.yes (turned_among refusal qs rest) is
+  where
+    go : (yes : Bool) → (number_of refusal ≡ first_no qs → number_of refusal ≡ first_no (qs ++ rest))
+        → number_of refusal ≡ cond yes (first_no qs) q.number → number_of refusal ≡ cond yes (first_no (qs ++ rest)) q.number
+    go true on e = on e
+    go false on e = e
+
+pub let_in_all : (qs rest : List Question) → T (numbered qs) → 0 ≡ first_no qs → first_no rest ≡ first_no (qs ++ rest)
+let_in_all qs rest numbers none =
+    sym (first_no_append qs rest numbers ∙ ap (λ (k : ℕ). unless_refused (λ j. j) k (first_no rest)) (sym none))
+
+module _ {A : Type 0} (r : Result A Refusal) (refusal : Refusal) (exits : IsErrAnd r (λ given. given ≡ refusal)) where
+  pub handed_on : r ≡ Err refusal
+  handed_on = let p = err_from_is_err_and r exits in p.1 ∙ ap Err p.2
+
+  pub refused_is : {number : ℕ} → number_of refusal ≡ number → refused_with r ≡ number
+  refused_is is = ap refused_with handed_on ∙ is
+
+  pub unless_refused_is : {number : ℕ} (answer : Result A ℕ) → number_of refusal ≡ number → by_number r ≡ unless_refused Err number answer
+  unless_refused_is {number} answer is =
+      let some : number ≡ 0 → ⊥ = λ e. omega (arith, number_some refusal) in
+      ap by_number handed_on ∙ rw (ne_eqb number 0 some) (ap Err is)

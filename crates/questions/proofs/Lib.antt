@@ -2,4 +2,5 @@
 pub mod Questions
 pub mod Given
 pub mod Ladder
+pub mod Results
 pub mod Reply

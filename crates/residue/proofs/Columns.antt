@@ -5,11 +5,10 @@
 --   column-first, column_second   the two columns that the chain begins with
 --   column-step                   one division
 --   column-given                  b divided by a, for a below b: two divisions, and the first has the quotient 0
---   column_fits                   the new entry of a column is no larger than the sum
 --   column_end, column-quotient   the cofactor at the end of the chain, and the quotient of the sum by the divisor
 use mathlib.Core.Bool.{Bool, true, false, not, cond, not-not}
 use mathlib.Core.Path.{◌≡◌, sym, ap, ◌∙◌}
-use Prim.Native.Nat.{ℕ, zero, suc, ◌+◌, ◌-◌, ◌*◌, ◌/◌, ◌%◌, ◌≤◌, ◌<◌}
+use Prim.Native.Nat.{ℕ, ◌+◌, ◌-◌, ◌*◌, ◌/◌, ◌%◌, ◌<◌}
 use native.Mathlib.Nat.{div-add-mod', sub-add_cancel, mod-eq_of_lt, div-eq_of_lt, div-eq_of_eq-mul_left, le_of_lt}
 use native.Mathlib.Omega.{arith}
 use Rattle.residue.specs.Congruent.{Congruent}
@@ -80,14 +79,6 @@ column-given odd {m} {sum} {z} {a} {b} {u} {v} pos h small c =
     swapped =
         let e : u + a / b * v ≡ u = rw (div-eq_of_lt small) (omega arith) in
         rw (e, mod-eq_of_lt small) at (column-step odd pos (omega arith) c)
-
-pub column_fits : {odd : Bool} {m sum z x y u v q : ℕ} → 0 < y → q ≡ x / y → Column odd m sum z x y u v → u + q * v ≤ sum
-column_fits {x = x} {y = y} {u = u} {v = v} h quotient c =
-    rw quotient (go y (x % y) (u + x / y * v) h (size_step x y u v _ (x / y) (x % y) (div-add-mod' x y) c.size))
-  where
-    go : (y r w : ℕ) {sum : ℕ} → 0 < y → w * y + v * r ≡ sum → w ≤ sum
-    go zero r w pos e = absurd (omega arith)
-    go (suc y) r w pos e = omega (arith, e)
 
 times-one : (m u : ℕ) → Congruent m (1 % m * u) u
 times-one m u =

@@ -1,5 +1,4 @@
 -- A reciprocal a·2^32 / m read off the inverse v = (2^64 - 1) / m: it is a·v / 2^32 or one more.
---   inverse_fits              a·v is a number of 64 bits
 --   inverse_low, inverse_high what is read off is not too large, and at most one too small
 --   quotient_is               a number between two multiples of m has the lower one's quotient
 use mathlib.Core.Path.{◌≡◌, sym, subst}
@@ -15,10 +14,6 @@ inverse_below m v is = subst (λ (k : ℕ). k * m ≤ 18446744073709551615) (sym
 inverse_above : (m v : ℕ) → 0 < m → v ≡ inverse_of m → 18446744073709551615 < (v + 1) * m
 inverse_above m v pos is =
     subst (λ (k : ℕ). 18446744073709551615 < (k + 1) * m) (sym is) (omega (arith, lt-mul-div-succ 18446744073709551615 {b = m} pos))
-
-pub inverse_fits : (a m v : ℕ) → a < m → v ≡ inverse_of m → a * v < 18446744073709551616
-inverse_fits a m v small is =
-    omega (arith, mul-le-mul_right {m = a} {n = m} v (omega arith), inverse_below m v is)
 
 low_of : (a m v q : ℕ) → q * 4294967296 ≤ a * v → v * m ≤ 18446744073709551615 → q * m ≤ a * 4294967296
 low_of a m v q h g =

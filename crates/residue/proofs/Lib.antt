@@ -1,5 +1,5 @@
 -- Laws about the definitions in specs/, for every crate above.
--- The kit over any modulus: Congruent, Divides, Negative, Whole, Residue; signed numbers of a width: Signed. Euclid's chain: Induction, Bezout, Columns, Gcd, Lame.
+-- The kit over any modulus: Congruent, Divides, Negative, Whole, Residue. Euclid's chain: Induction, Bezout, Columns, Gcd, Lame.
 -- A reciprocal and a product without a division: Inverse, Shoup.
 -- One congruence: First, Solutions. What specs/Promises.antt promises: Promises.
 pub mod Congruent
@@ -7,7 +7,6 @@ pub mod Divides
 pub mod Negative
 pub mod Whole
 pub mod Residue
-pub mod Signed
 pub mod Induction
 pub mod Bezout
 pub mod Columns

@@ -11,18 +11,19 @@ use Prim.Native.Nat.{ℕ, ◌+◌, ◌*◌, ◌/◌, ◌%◌, ◌<◌}
 use native.Mathlib.Nat.{mul_comm, mod-lt, mod-le, div-add-mod, div-add-mod', div-eq_of_eq-mul_right}
 use native.Mathlib.Omega.{arith}
 use borrow.Author.Tests.{eq-eqb, ne_eqb}
+use Rattle.std.specs.Prelude.{None}
 use Rattle.residue.specs.Congruent.{Congruent}
 use Rattle.residue.specs.Divides.{Divides}
 use Rattle.residue.specs.Bezout.{cofactors}
 use Rattle.residue.specs.Gcd.{gcd}
 use Rattle.residue.specs.Promises.{Describes}
 use Rattle.residue.specs.Congruence.{least_of, solves_congruence, solutions_of}
-use Rattle.residue.specs.declared.congruence.Solutions.TheVariants.{NoSolution, Spaced}
 use Rattle.residue.proofs.Bezout.{cofactors_bezout}
 use Rattle.residue.proofs.Congruent.{congruent_of, congruent_of_eq, congruent_refl, congruent_sym, congruent_trans, congruent_mul, congruent_mod, congruent_scale, congruent_unscale, congruent_down}
 use Rattle.residue.proofs.Divides.{factor_positive, divides_le, divides_congruent, divides_mul}
 use Rattle.residue.proofs.First.{first_is}
 use Rattle.residue.proofs.Gcd.{gcd_divides_left, gcd_divides_right}
+use Rattle.residue.specs.Congruence.{spaced}
 
 pub solution_divides : (a b m u : ℕ) → Congruent m (a * u) b → Divides (gcd a m) b
 solution_divides a b m u h =
@@ -106,7 +107,7 @@ module _ (a b m : ℕ) (pos : 0 < m) (divided : b % gcd a m ≡ 0) where
   quotient_of : b ≡ gcd a m * (b / gcd a m)
   quotient_of = omega (arith, div-add-mod b (gcd a m))
 
-  pub solutions_are : solutions_of a b m ≡ Spaced ((cofactors m a m).s * (b / gcd a m) % (m / gcd a m)) (m / gcd a m)
+  pub solutions_are : solutions_of a b m ≡ spaced ((cofactors m a m).s * (b / gcd a m) % (m / gcd a m)) (m / gcd a m)
   unfolding solutions_of
   solutions_are =
       let z = cofactors_bezout m a m pos in
@@ -125,6 +126,6 @@ module _ (a b m : ℕ) (pos : 0 < m) (divided : b % gcd a m ≡ 0) where
       (describes a b m (gcd a m) z.q z.p (cofactors m a m).s (cofactors m a m).t (b / gcd a m) pos
       z.left z.right z.one quotient_of)
 
-pub solutions_none : (a b m : ℕ) → (b % gcd a m ≡ 0 → ⊥) → solutions_of a b m ≡ NoSolution
+pub solutions_none : (a b m : ℕ) → (b % gcd a m ≡ 0 → ⊥) → solutions_of a b m ≡ None
 unfolding solutions_of
 solutions_none a b m h = rw (ne_eqb (b % gcd a m) 0 h)

@@ -1,6 +1,6 @@
 -- What this crate promises of its definitions, beside the contracts: Euclid's chain gives the textbook's divisor, every whole
 -- number has its residue, and the answer to one congruence describes its solutions, for every m ≥ 1. Kept in proofs/Promises.antt.
-use Rattle.std.specs.Prelude.{◌↔◌, ◌≡◌, ℕ, ◌+◌, ◌-◌, ◌*◌, min, ◌≤◌, ◌<◌, ℤ, pos, neg_ℤ}
+use Rattle.std.specs.Prelude.{◌↔◌, ◌≡◌, ℕ, ◌+◌, ◌-◌, ◌*◌, min, ◌≤◌, ◌<◌, ℤ, pos, neg_ℤ, None}
 use Rattle.residue.specs.Congruent.{Congruent}
 use Rattle.residue.specs.Whole.{CongruentWhole}
 use Rattle.residue.specs.Divides.{Divides}
@@ -8,7 +8,7 @@ use Rattle.residue.specs.Residue.{residue_of}
 use Rattle.residue.specs.Digits.{digits}
 use Rattle.residue.specs.Gcd.{gcd, divisions}
 use Rattle.residue.specs.Congruence.{solutions_of}
-use Rattle.residue.specs.declared.congruence.Solutions.TheVariants.{NoSolution, Spaced}
+use Rattle.residue.specs.Congruence.{spaced}
 
 -- "Euclid's chain reports the textbook's divisor": it divides both numbers, and every common divisor divides it
 abbrev pub GreatestDivisor : Type 0
@@ -30,11 +30,11 @@ MinusOneAndZero = (m : ℕ) → 0 < m → (residue_of m (neg_ℤ (pos 1)) ≡ m 
 
 -- "with g = gcd(a,m), none exactly when g does not divide b"
 abbrev pub NoneByDivisor : Type 0
-NoneByDivisor = (a b m : ℕ) → 0 < m → (solutions_of a b m ≡ NoSolution) ↔ (Divides (gcd a m) b → ⊥)
+NoneByDivisor = (a b m : ℕ) → 0 < m → (solutions_of a b m ≡ None) ↔ (Divides (gcd a m) b → ⊥)
 
 -- "none": there is no solution, among all numbers
 abbrev pub NoneExactly : Type 0
-NoneExactly = (a b m : ℕ) → 0 < m → (solutions_of a b m ≡ NoSolution) ↔ ((u : ℕ) → Congruent m (a * u) b → ⊥)
+NoneExactly = (a b m : ℕ) → 0 < m → (solutions_of a b m ≡ None) ↔ ((u : ℕ) → Congruent m (a * u) b → ⊥)
 
 -- the t and the spacing of an answer describe the numbers that solve a congruence mod m
 pub record Describes (Solves : ℕ → Type 0) (m t spacing : ℕ) : Type 0 where
@@ -47,5 +47,5 @@ pub record Describes (Solves : ℕ → Type 0) (m t spacing : ℕ) : Type 0 wher
 -- "otherwise the least t, and the spacing m/g", of a·t = b mod m
 abbrev pub LeastAndSpacing : Type 0
 LeastAndSpacing =
-    (a b m t spacing : ℕ) → 0 < m → solutions_of a b m ≡ Spaced t spacing
+    (a b m t spacing : ℕ) → 0 < m → solutions_of a b m ≡ spaced t spacing
     → Describes (λ u. Congruent m (a * u) b) m t spacing

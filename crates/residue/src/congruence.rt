@@ -6,24 +6,24 @@ use super::division::divide;
 use super::extended::cofactors;
 use super::modular::mul;
 
+// The least solution, and the spacing of all.
 #[derive(Clone, Copy)]
-pub enum Solutions {
-    NoSolution,
-    // the least solution, and the spacing
-    Spaced(u32, u32),
+pub struct Solutions {
+    pub least: u32,
+    pub spacing: u32,
 }
 
 // For every modulus and all numbers. With g the divisor of a and m, s·(a / g) is 1 mod m / g.
-pub fn solve(a: u32, b: u32, m: u32) -> Solutions
+pub fn solve(a: u32, b: u32, m: u32) -> Option<Solutions>
     requires { 0 < m }
     ensures { result ≡ solutions_of a b m }
 {
     let bezout = cofactors(m, a, m, 0, m);
     let right = divide(b, bezout.divisor);
     if right.remainder != 0 {
-        return Solutions::NoSolution;
+        return None;
     }
     let spacing = bezout.p;
     let least = mul(bezout.s, right.quotient, spacing);
-    Solutions::Spaced(least, spacing)
+    Some(Solutions { least, spacing })
 }

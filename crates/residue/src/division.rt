@@ -3,37 +3,33 @@
 ghost use Rattle.std.specs.Prelude.{◌≡◌, ◌/◌, ◌%◌, ◌<◌};
 
 #[derive(Clone, Copy)]
-pub struct Division {
-    pub quotient: u32,
-    pub remainder: u32,
+pub struct Division<T> {
+    pub quotient: T,
+    pub remainder: T,
 }
 
-pub fn divide(a: u32, b: u32) -> Division
+// Two functions: over a trait of numbers both impls would have a quotient and a remainder of their own, so that four bodies and two
+// promises of a trait would stand in place of these two bodies.
+pub fn divide(a: u32, b: u32) -> Division<u32>
     requires { 0 < b }
     ensures { (result.quotient ≡ a / b) × (result.remainder ≡ a % b) }
 {
     let quotient = a / b;
     let remainder = a - quotient * b;
     Division {
-        quotient: quotient,
-        remainder: remainder,
+        quotient,
+        remainder,
     }
 }
 
-#[derive(Clone, Copy)]
-pub struct WideDivision {
-    pub quotient: u64,
-    pub remainder: u64,
-}
-
-pub fn divide_wide(x: u64, y: u64) -> WideDivision
+pub fn divide_wide(x: u64, y: u64) -> Division<u64>
     requires { 0 < y }
     ensures { (result.quotient ≡ x / y) × (result.remainder ≡ x % y) }
 {
     let quotient = x / y;
     let remainder = x - quotient * y;
-    WideDivision {
-        quotient: quotient,
-        remainder: remainder,
+    Division {
+        quotient,
+        remainder,
     }
 }

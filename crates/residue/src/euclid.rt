@@ -19,6 +19,7 @@ pub fn gcd(a: u32, b: u32) -> Chain
     let mut x = a;
     let mut y = b;
     let mut count: u32 = 0;
+    // `while`, since nothing is gone through: how long a chain is shows only at its end.
     while y != 0 {
         let division = divide(x, y);
         x = y;

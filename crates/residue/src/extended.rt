@@ -32,6 +32,7 @@ pub fn cofactors(m: u32, a: u32, b: u32, quotient: u32, rest: u32) -> Bezout
     let mut t: u32 = 0;
     let mut t_next: u32 = 1;
     let mut odd = false;
+    // `while`, since nothing is gone through: how long a chain is shows only at its end.
     while y > 1 {
         let division = divide(x, y);
         let times = division.quotient;

@@ -1,6 +1,6 @@
-// Residue arithmetic: numbers of 32 bits, sums and products of 64 bits, and one equation with `%` for each function. The
-// result is always below m; what a function asks of its arguments is only what it computes with.
-ghost use Rattle.std.specs.Prelude.{◌≡◌, cond, ◌+◌, ◌-◌, ◌*◌, ◌/◌, ◌%◌, ◌≤◌, ◌<◌, nat_abs};
+// Residue arithmetic: numbers of 32 bits, sums and products of 64 bits, and one equation with `%` for each function. A residue
+// that is given is below m; what a function asks of its arguments is only what it computes with.
+ghost use Rattle.std.specs.Prelude.{◌≡◌, cond, ◌+◌, ◌-◌, ◌*◌, ◌/◌, ◌%◌, ◌≤◌, ◌<◌};
 ghost use Rattle.residue.specs.Inverse.{inverse_of};
 ghost use Rattle.residue.specs.Negative.{negative};
 ghost use Rattle.residue.specs.Residue.{residue_of};
@@ -17,7 +17,7 @@ pub fn negate(a: u32, m: u32) -> u32
     requires { 0 < m }
     ensures { (result ≡ negative m a % m) × (result < m) }
 {
-    opposite(remainder(a as u64, m), m)
+    opposite(remainder(wide(a), m), m)
 }
 
 // The negative of a residue.
@@ -41,18 +41,7 @@ pub fn residue(x: i64, m: u32) -> u32
     requires { 0 < m }
     ensures { (result ≡ residue_of m x) × (result < m) }
 {
-    signed(size(x), x < 0, m)
-}
-
-// A number without its sign. The least number of 64 bits has no negative there: 1 is added before its sign is changed, and again
-// behind that.
-fn size(number: i64) -> u64
-    ensures { result ≡ nat_abs number }
-{
-    if number < 0 {
-        return (-(number + 1)) as u64 + 1;
-    }
-    number as u64
+    signed(x.unsigned_abs(), x < 0, m)
 }
 
 pub(crate) fn signed(size: u64, minus: bool, m: u32) -> u32
@@ -85,7 +74,8 @@ pub fn combine(s: u32, a: u32, t: u32, b: u32, m: u32) -> u32
     mul_add(mul(s, a, m), t, b, m)
 }
 
-// What `reciprocal` wants to know of a modulus that is used many times.
+// What `reciprocal` wants to know of a modulus that is used many times. This and the three below take and give plain numbers, as
+// docs/CONTRACTS.md promises of them, and `joint` and `left_over` with them; `Modulus` and `Factor` call them, and hold the facts.
 pub fn inverse_of(m: u32) -> u64
     requires { 0 < m }
     ensures { result ≡ inverse_of m }
@@ -126,6 +116,72 @@ pub fn combine_by(s: u32, u: u32, a: u32, t: u32, v: u32, b: u32, m: u32) -> u32
     } else {
         let sum = left_over(s, u, a, m) + left_over(t, v, b, m);
         reduce_once(reduce_by_twice(sum, m), m)
+    }
+}
+
+// A modulus that is used many times, with what `reciprocal` wants to know of it.
+#[derive(Clone, Copy)]
+pub struct Modulus {
+    pub m: u32,
+    inverse: u64,
+    pub ghost positive: { 0 < m },
+    pub ghost inverse_is: { inverse ≡ inverse_of m },
+}
+
+impl Modulus {
+    pub fn new(m: u32) -> Modulus
+        requires { 0 < m }
+        ensures { result.m ≡ m }
+    {
+        Modulus {
+            m,
+            inverse: inverse_of(m),
+        }
+    }
+
+    pub fn factor(self, a: u32) -> Factor
+        requires { a < self.m }
+        ensures { (result.value ≡ a) × (result.m ≡ self.m) }
+    {
+        Factor {
+            value: a,
+            reciprocal: reciprocal(a, self.m, self.inverse),
+            m: self.m,
+        }
+    }
+}
+
+// A factor that is used many times with one modulus, with its reciprocal: no product divides.
+#[derive(Clone, Copy)]
+pub struct Factor {
+    pub value: u32,
+    reciprocal: u32,
+    pub m: u32,
+    pub ghost below: { value < m },
+    pub ghost reciprocal_is: { reciprocal ≡ value * 4294967296 / m },
+}
+
+impl Factor {
+    pub fn times(self, b: u32) -> u32
+        ensures { (result ≡ (self.value * b) % self.m) × (result < self.m) }
+    {
+        mul_by(self.value, self.reciprocal, b, self.m)
+    }
+
+    // `combine` for two factors.
+    pub fn combine(self, a: u32, other: Factor, b: u32) -> u32
+        requires { (other.m ≡ self.m) × (a < self.m) × (b < self.m) }
+        ensures { (result ≡ (self.value * a + other.value * b) % self.m) × (result < self.m) }
+    {
+        combine_by(
+            self.value,
+            self.reciprocal,
+            a,
+            other.value,
+            other.reciprocal,
+            b,
+            self.m,
+        )
     }
 }
 
@@ -172,10 +228,11 @@ fn left_over(a: u32, u: u32, b: u32, m: u32) -> u64
     product(a, b) - product(quotient, m)
 }
 
+// `u64::from` under a name that says which way: docs/CONTRACTS.md names it.
 pub fn wide(x: u32) -> u64
     ensures { result ≡ x }
 {
-    x as u64
+    u64::from(x)
 }
 
 // The bound is (2^32 - 1)²: another 32-bit number can be added.
@@ -206,7 +263,7 @@ fn reduce_once(x: u64, m: u32) -> u32
     }
 }
 
-// 2·m is taken off at most once.
+// 2·m is taken off at most once. Not one function with `reduce_once`, which gives 32 bits: the multiple would go with its law.
 fn reduce_by_twice(x: u64, m: u32) -> u64
     requires { x < 4 * m }
     ensures { (result % m ≡ x % m) × (result < 2 * m) }

@@ -10,42 +10,42 @@ use Prim.Native.Nat.{ℕ, zero, suc, ◌*◌, ◌≤◌, ◌<◌}
 use native.Mathlib.Omega.{arith}
 use borrow.Author.Tests.{eq-eqb, ne_eqb, le-leb, lt-leb}
 use lib.ListN.{length}
+use Rattle.std.specs.Prelude.{Some, None, Ok, Err}
 use Rattle.slices.specs.Over.{over}
 use Rattle.questions.specs.Questions.{first_no, unless_refused}
 use Rattle.questions.specs.Reply.{refuses, fits, result_of, memory_after}
 use Rattle.equations.proofs.Vectors.{vector-length}
 use Rattle.words.specs.Words.{entry_kind, words_in, numbers_of, words_of}
 use Rattle.words.proofs.Packed.{written_two}
-use Rattle.safe.specs.declared.Turned.{Turned}
-use Rattle.safe.specs.declared.Turned.TheVariants.{Wrote, NoTurns, Refused}
 use Rattle.safe.specs.Turns.{turns_of}
 use Rattle.safe.specs.Calls.{most_locks, argument_questions, found, turns_reply, turned_of}
 use Rattle.safe.specs.Model.Handed.{Gives}
 use Rattle.safe.proofs.Promises.{wanted}
 use Rattle.safe.proofs.Questions.{accepted}
+use Rattle.safe.specs.Turned.{Turned, gives_turns, gives_none}
 
 -- ---- case by case
 
 module _ {turns : Option (List ℕ)} (old : List ℕ) where
-  pub no_turns : turns ≡ none → Gives (found turns) old NoTurns old
+  pub no_turns : turns ≡ none → Gives (found turns) old gives_none old
   unfolding result_of memory_after
   no_turns are =
       let fit = le-leb 0 (length old) (omega arith) in
       (rw (are, fit), rw (are, fit))
 
   module _ (vs : List ℕ) (are : turns ≡ some vs) where
-    pub too_short : length old < length (words_of entry_kind vs) → Gives (found turns) old (Refused 8) old
+    pub too_short : length old < length (words_of entry_kind vs) → Gives (found turns) old (Err 8) old
     unfolding result_of memory_after
     too_short short = let no = lt-leb (length (words_of entry_kind vs)) (length old) short in (rw (are, no), rw (are, no))
 
     pub wrote : length (words_of entry_kind vs) ≤ length old
-        → Gives (found turns) old (Wrote (length (words_of entry_kind vs))) (over (words_of entry_kind vs) old)
+        → Gives (found turns) old (gives_turns (length (words_of entry_kind vs))) (over (words_of entry_kind vs) old)
     unfolding result_of memory_after
     wrote long = let yes = le-leb (length (words_of entry_kind vs)) (length old) long in (rw (are, yes), rw (are, yes))
 
 module _ (m rows columns : ℕ) (values old : List ℕ) (number : ℕ)
     (is : number ≡ first_no (argument_questions m rows columns values)) where
-  pub refused : (number ≡ 0 → ⊥) → Gives (turns_reply m rows columns values) old (Refused number) old
+  pub refused : (number ≡ 0 → ⊥) → Gives (turns_reply m rows columns values) old (Err number) old
   unfolding turns_reply result_of memory_after
   refused more = (rw (← is, ne_eqb number 0 more), rw (← is, ne_eqb number 0 more))
 
@@ -63,17 +63,17 @@ turns_length m rows columns values vs are = vector-length m (rows * columns) vs 
 -- ---- how many words are written
 
 abbrev written : Turned → ℕ
-written (Wrote k) = k
-written NoTurns = 0
-written (Refused k) = 0
+written (Ok (Some k)) = k
+written (Ok None) = 0
+written (Err k) = 0
 
 few-found : (o : Option (List ℕ)) (old : List ℕ) → ((vs : List ℕ) → o ≡ some vs → length vs ≤ most_locks)
-    → written (result_of Refused (found o) old) ≤ 2 * most_locks
+    → written (result_of Err (found o) old) ≤ 2 * most_locks
 unfolding result_of
 few-found none old few = rw (le-leb 0 (length old) (omega arith)) (omega arith)
 few-found (some vs) old few = either (fits (length (words_of entry_kind vs)) old)
   where
-    either : (b : Bool) → written (cond b (Wrote (length (words_of entry_kind vs))) (Refused 8)) ≤ 2 * most_locks
+    either : (b : Bool) → written (cond b (gives_turns (length (words_of entry_kind vs))) (Err 8)) ≤ 2 * most_locks
     either true = omega (arith, written_two entry_kind vs, few vs refl)
     either false = omega arith
 
@@ -82,7 +82,7 @@ module _ (m rows columns : ℕ) (values old : List ℕ) where
   turns = turns_of m rows columns (numbers_of (words_in values))
 
   few-given : (number : ℕ) → first_no (argument_questions m rows columns values) ≡ number
-      → written (result_of Refused (unless_refused refuses number (found turns)) old) ≤ 2 * most_locks
+      → written (result_of Err (unless_refused refuses number (found turns)) old) ≤ 2 * most_locks
   unfolding result_of
   few-given zero h = few-found turns old few
     where
@@ -92,7 +92,7 @@ module _ (m rows columns : ℕ) (values old : List ℕ) where
           omega (arith, turns_length m rows columns (numbers_of (words_in values)) vs are, safe.count, safe.few)
   few-given (suc number) h = rw (ne_eqb (suc number) 0 (λ e. omega arith)) (omega arith)
 
-  pub words_few : (k : ℕ) → turned_of m rows columns values old ≡ Wrote k → k ≤ 2 * most_locks
+  pub words_few : (k : ℕ) → turned_of m rows columns values old ≡ gives_turns k → k ≤ 2 * most_locks
   unfolding turned_of turns_reply
   words_few k is =
       subst (λ (t : Turned). written t ≤ 2 * most_locks) is (few-given (first_no (argument_questions m rows columns values)) refl)

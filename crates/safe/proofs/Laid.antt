@@ -126,16 +126,19 @@ module _ (m columns : ℕ) (values old : List ℕ) where
 
   pub lines_on_lem : (i at : ℕ) (lines part : List ℕ) → i < n → at ≡ i * (n + 1)
       → lines ≡ take at all ++ drop at old → part ≡ line_of m columns n i (get_or values i 0)
-      → take at lines ++ (part ++ drop (at + n + 1 - at) (drop at lines)) ≡ take (at + n + 1) all ++ drop (at + n + 1) old
+      → take at lines ++ (part ++ drop (at + (n + 1) - at) (drop at lines))
+      ≡ take ((i + 1) * (n + 1)) all ++ drop ((i + 1) * (n + 1)) old
   lines_on_lem i at lines part lt e is it =
-      let width : n + 1 ≡ at + n + 1 - at = omega arith in
-      let line : part ≡ take (at + n + 1 - at) (drop at all) =
+      let width : n + 1 ≡ at + (n + 1) - at = omega arith in
+      let end : at + (n + 1) ≡ (i + 1) * (n + 1) = omega (arith, e) in
+      let line : part ≡ take (at + (n + 1) - at) (drop at all) =
       it ∙ sym (line_at m columns n 0 i i values (omega arith) lt)
       ∙ ap₂ (λ (k j : ℕ). take k (drop j all)) width (sym e) in
-      ap (λ (z : List ℕ). take at z ++ (part ++ drop (at + n + 1 - at) (drop at z))) is
-      ∙ part_more at (at + n + 1) all old part (omega arith)
+      ap (λ (z : List ℕ). take at z ++ (part ++ drop (at + (n + 1) - at) (drop at z))) is
+      ∙ part_more at (at + (n + 1)) all old part (omega arith)
       (omega (arith, line-fits n i at lt e, length-lines m columns n 0 values))
       line
+      ∙ ap (λ (k : ℕ). take k all ++ drop k old) end
 
   pub lines_end : (i at : ℕ) → i ≡ n → at ≡ i * (n + 1) → length old ≡ n * (n + 1) → take at all ++ drop at old ≡ all
   lines_end i at e h long =

@@ -1,17 +1,17 @@
 -- The questions about a safe, asked of what the code sees, and what is known of a safe that they let in.
 --   size-allowed                 what the question of the size says
 --   values_count                 the question of the kinds says how many values there are
---   size-asked                   the code asks for the size by the number of locks, which is 0 where it is not allowed
+--   size-asked                   the code asks for the size by the number of locks, which is none where it is not allowed
 --   kinds_asked, numbers_asked   where the questions so far have the answer yes, what is seen tells the next answer
 --   accepted                     what is known where no question about the arguments turns the safe away
 use mathlib.Core.Bool.{Bool, true, false, cond, ◌&&◌}
 use mathlib.Core.List.{List}
+use Rattle.std.proofs.Common.{Some, None}
 use mathlib.Core.Path.{◌≡◌, refl, sym, ap, ◌∙◌}
 use Prim.Native.Nat.{ℕ, ◌*◌, ◌≤◌, ◌<◌, min}
 use native.Mathlib.Nat.{mul-pos}
 use native.Mathlib.Omega.{arith}
-use borrow.Author.Tests.{lt-ltb}
-use lib.Dec.{T, leb, ltb, leb→le}
+use lib.Dec.{T, leb, leb→le}
 use lib.ListN.{length, take, replicate, length-replicate}
 use mir.Facts.{and_yes}
 use Rattle.slices.specs.Over.{over}
@@ -56,23 +56,20 @@ module _ (rows columns : ℕ) where
   abbrev wanted : List ℕ
   wanted = replicate (rows * columns) entry_kind
 
-  pub size-asked : {locks : ℕ} → locks ≡ cond (allowed_size rows columns) (rows * columns) 0
-      → ltb 0 locks ≡ allowed_size rows columns
-  size-asked is = ap (ltb 0) is ∙ either (allowed_size rows columns) (size-allowed rows columns)
+  pub size-asked : {locks : ℕ} → Some locks ≡ cond (allowed_size rows columns) (Some (rows * columns)) None
+      → (allowed_size rows columns ≡ true) × (locks ≡ rows * columns)
+  size-asked {locks} is = either (allowed_size rows columns) is
     where
-      either : (b : Bool) → (T b → (1 ≤ rows) × (1 ≤ columns) × (rows * columns ≤ most_locks))
-          → ltb 0 (cond b (rows * columns) 0) ≡ b
-      either true size = lt-ltb 0 (rows * columns) (mul-pos (size tt).0 (size tt).1)
-      either false size = refl
+      either : (b : Bool) → Some locks ≡ cond b (Some (rows * columns)) None → (b ≡ true) × (locks ≡ rows * columns)
+      either true same = (refl, cc)
+      either false same = let z : ◌≡◌ {A = ℕ} 0 1 = cc in absurd (omega arith)
 
   module _ (values old : List ℕ) {r : ℕ} {new : List ℕ} (count : r ≡ min values_room (length (words_in values)))
       (size : T (allowed_size rows columns)) where
-    pub kinds_asked : {locks : ℕ} → locks ≡ cond (allowed_size rows columns) (rows * columns) 0
-        → new ≡ over (take values_room (kinds_of (words_in values))) old
+    pub kinds_asked : {locks : ℕ} → locks ≡ rows * columns → new ≡ over (take values_room (kinds_of (words_in values))) old
         → same_vector (take r new) (replicate locks entry_kind) ≡ have_kinds (words_in values) wanted
     kinds_asked {locks} is front =
-        let all : locks ≡ rows * columns = is ∙ rw (true_of (allowed_size rows columns) size) in
-        ap (λ (n : ℕ). same_vector (take r new) (replicate n entry_kind)) all
+        ap (λ (n : ℕ). same_vector (take r new) (replicate n entry_kind)) is
         ∙ kinds_seen kind_of values_room values old front count wanted
         (omega (arith, length-replicate (rows * columns) entry_kind, (size-allowed rows columns size).2))
 

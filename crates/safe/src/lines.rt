@@ -17,7 +17,7 @@ fn coefficient(columns: usize, i: usize, p: usize) -> u32
     let turn = divide_wide(p as u64, columns as u64);
     let in_row = lock.quotient == turn.quotient;
     let in_column = lock.remainder == turn.remainder;
-    (in_row || in_column) as u32
+    u32::from(in_row || in_column)
 }
 
 // The turns that reach a lock bring it to 0 if they add up to the negative of its value x.
@@ -33,26 +33,21 @@ fn line_into(line: &mut [u32], m: u32, columns: usize, n: usize, i: usize, x: u3
     requires { (0 < m) × (0 < columns) × (length line.old ≡ n + 1) }
     ensures { line.new ≡ line_of m columns n i x }
 {
-    let mut p: usize = 0;
-    while p < n {
+    for p in 0..n {
         line[p] = coefficient(columns, i, p);
-        p += 1;
     }
     line[n] = right_side(x, m);
 }
 
-// The lines of all locks.
+// The lines of all locks. (A loop over `chunks_exact_mut` was tried: its invariant cannot name what is written.)
 pub(crate) fn lines_into(lines: &mut [u32], m: u32, columns: usize, values: &[u32])
     requires { (0 < m) × (0 < columns) × (length lines.old ≡ length values.now * (length values.now + 1)) }
     ensures { lines.new ≡ lines_from m columns (length values.now) 0 values.now }
 {
     let n = values.len();
-    let mut i: usize = 0;
-    let mut at: usize = 0;
-    while i < n {
-        let end = at + n + 1;
-        line_into(&mut lines[at..end], m, columns, n, i, values[i]);
-        at = end;
-        i += 1;
+    let width = n + 1;
+    for (i, x) in values.iter().enumerate() {
+        let at = i * width;
+        line_into(&mut lines[at..at + width], m, columns, n, i, *x);
     }
 }

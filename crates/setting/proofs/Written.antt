@@ -2,15 +2,16 @@
 --   line-memory, line-length   an equation in a row of numbers: its coefficients' words, and behind them its right side's
 --   line-written               so it is written
 --   rows_memory                 the words of equations in rows
---   rows_next, rows_none       those of the first, and of too few numbers for one
+--   rows_next, rows_step       those of the first,
+--   rows_none                  and of too few numbers for one
 --   memory-fits                the words of at most n equations fit into the room that is asked for
-use mathlib.Core.Path.{◌≡◌, sym, ap, ◌∙◌}
+use mathlib.Core.Path.{◌≡◌, refl, sym, ap, ◌∙◌}
 use mathlib.Core.List.{List, [], ◌∷◌, ◌++◌}
 use Prim.Native.Nat.{ℕ, suc, ◌+◌, ◌*◌, ◌<◌, ◌≤◌}
 use native.Mathlib.Nat.{mul-le-mul}
 use native.Mathlib.Omega.{arith}
 use lib.ListN.{length, take, drop, get_or, length-append, drop_of_length-le}
-use lib.Seq.{drop-cons}
+use lib.Seq.{drop-cons, take_at, drop_at}
 use Rattle.slices.specs.Over.{over}
 use Rattle.slices.proofs.Over.{over-behind}
 use Rattle.slices.proofs.Parts.{lent, put_back, lent_is}
@@ -63,6 +64,14 @@ module _ (n : ℕ) (rest : List ℕ) where
   rows_none h = ap sheet_memory (equations-none n rest h)
 
 -- ---- the room
+
+-- a row off the front
+pub rows_step : (n : ℕ) (line rest : List ℕ) {numbers : List ℕ} → numbers ≡ line ++ rest → length line ≡ n + 1
+    → rows_memory n numbers ≡ equation_memory (equation_at n line) ++ rows_memory n rest
+rows_step n line rest is long =
+    ap (rows_memory n) is
+    ∙ rows_next n (line ++ rest) (omega (arith, length-append line rest, long))
+    ∙ rw (lent_is (n + 1) (line ++ rest), take_at line rest (n + 1) long, drop_at line rest (n + 1) long) refl
 
 memory_two : (n : ℕ) (e : Equation) → length e.coefficients ≡ n → length (equation_memory e) ≤ 2 * (n + 1)
 memory_two n e long =

@@ -1,28 +1,26 @@
 // The questions about a claim that a sheet is wanted for. The buffer's length is asked later: 8 comes last.
-ghost use Rattle.std.specs.Prelude.{◌≡◌, length, take};
+ghost use Rattle.std.specs.Prelude.{◌≡◌, OnOk, length, take};
 ghost use Rattle.slices.specs.Over.{over};
 ghost use Rattle.questions.specs.Questions.{first_no};
+ghost use Rattle.questions.specs.Refusals.{refused_with};
 ghost use Rattle.words.specs.Words.{words_in, numbers_of};
 ghost use Rattle.asking.specs.Sees.{claim_room};
 ghost use Rattle.setting.specs.Calls.{setting_questions};
 
 use asking::queries::mark_refusal;
 use asking::{Seen, are_unknowns};
-use questions::{ask, is_modulus};
+use questions::{Refusal, ask, is_modulus};
 
-// The number of the question that turns the claim away, or 0 where none of these does; then the claim's numbers go to lent memory. The
+// The question that turns the claim away, if one of these does; and else the claim's numbers go to lent memory. The
 // questions of a claim are those of marking it on a fresh sheet of m and n.
-pub(crate) fn refusal(m: u32, n: u32, claim: &[u32], numbers: &mut [u32]) -> u32
+pub(crate) fn refusal(m: u32, n: u32, claim: &[u32], numbers: &mut [u32]) -> Result<(), Refusal>
     requires { length numbers.old ≡ claim_room }
-    ensures value { result ≡ first_no (setting_questions m n claim.now) }
-    ensures numbers_after { result ≡ 0 → numbers.new ≡ over (take claim_room (numbers_of (words_in claim.now))) numbers.old }
+    ensures value { refused_with result ≡ first_no (setting_questions m n claim.now) }
+    ensures numbers_after { OnOk result (numbers.new ≡ over (take claim_room (numbers_of (words_in claim.now))) numbers.old) }
 {
     let unknowns = n as usize;
-    let modulus = ask(0, 2, is_modulus(m));
-    let opening = ask(modulus, 3, are_unknowns(unknowns));
-    if opening != 0 {
-        return opening;
-    }
+    ask(is_modulus(m), Refusal::Modulus)?;
+    ask(are_unknowns(unknowns), Refusal::Unknowns)?;
     let fresh = Seen {
         opened: true,
         modulus: m,

@@ -7,6 +7,7 @@ use native.Mathlib.Omega.{arith}
 use borrow.Author.Tests.{lt-ltb}
 use lib.Dec.{T, ltb→lt}
 use lib.ListN.{length}
+use Rattle.std.specs.Prelude.{Ok, Err}
 use Rattle.questions.specs.Questions.{allowed_own}
 use Rattle.questions.proofs.Questions.{own_least}
 use Rattle.equations.specs.Equation.{solves_one}
@@ -26,7 +27,6 @@ use Rattle.ledger.specs.Calls.{adds, enters}
 use Rattle.ledger.specs.Questions.{refusal_of}
 use Rattle.ledger.proofs.Shapes.{adding_tops}
 use Rattle.ledger.proofs.Questions.{accepted-yes}
-use Rattle.sheet.specs.declared.Entered.TheVariants.{Holds, Refused}
 use Rattle.sheet.specs.Record.{Sheet, ledger_of}
 use Rattle.sheet.specs.Calls.{entered_of}
 use Rattle.sheet.specs.Promises.{LineModulus, RightAdding}
@@ -45,7 +45,7 @@ module _ (m n : ℕ) (ls : List Line) (ws : List ℕ) where
   abbrev words : List Word
   words = equation_words (words_in ws)
 
-  seventeen_said : (entered_of (opened m n ls) (adds ws) ≡ Refused 17) ↔ (T (tops_fit (words_in ws)) → ⊥)
+  seventeen_said : (entered_of (opened m n ls) (adds ws) ≡ Err 17) ↔ (T (tops_fit (words_in ws)) → ⊥)
   seventeen_said = let said = refused_said l (adds ws) 17 1 tt tt in ((λ refused. (said.0 refused).1), λ wrong. said.1 (tt, wrong))
 
   accepted_where : (refusal_of l (enters (adds ws)) ≡ 0) ↔ (T (is_equation n words) × LineModulus m q × (length ls < most_equations))
@@ -63,14 +63,14 @@ module _ (m n : ℕ) (ls : List Line) (ws : List ℕ) where
         ),
   )
 
-  pub added_said : (entered_of (opened m n ls) (adds ws) ≡ Holds (suc (length ls)))
+  pub added_said : (entered_of (opened m n ls) (adds ws) ≡ Ok (suc (length ls)))
       ↔ (T (is_equation n (equation_words (words_in ws))) × LineModulus m (own_modulus m (words_in ws)) × (length ls < most_equations))
   added_said = (
     (λ said. accepted_where.0 (holds_said l (adds ws) (suc (length ls)) said)),
     λ right. gained_said m n ls (adds ws) refl (accepted_where.1 right),
   )
 
-  pub fifteen_said : (entered_of (opened m n ls) (adds ws) ≡ Refused 15)
+  pub fifteen_said : (entered_of (opened m n ls) (adds ws) ≡ Err 15)
       ↔ (T (is_equation n (equation_words (words_in ws))) × (LineModulus m (own_modulus m (words_in ws)) → ⊥))
   fifteen_said =
       let said = refused_said l (adds ws) 15 3 tt tt in (
@@ -93,14 +93,14 @@ right_adding s m n ls ws reads =
     let words = equation_words (words_in ws) in
     record {
       seventeen =
-          subst (λ (l : Ledger). (entered_of l (adds ws) ≡ Refused 17) ↔ (T (tops_fit (words_in ws)) → ⊥)) (sym reads)
+          subst (λ (l : Ledger). (entered_of l (adds ws) ≡ Err 17) ↔ (T (tops_fit (words_in ws)) → ⊥)) (sym reads)
           (seventeen_said m n ls ws);
       allowed =
           subst
-          (λ (l : Ledger). (entered_of l (adds ws) ≡ Holds (suc (length ls)))
+          (λ (l : Ledger). (entered_of l (adds ws) ≡ Ok (suc (length ls)))
           ↔ (T (is_equation n words) × LineModulus m q × (length ls < most_equations))) (sym reads) (added_said m n ls ws);
       fifteen =
-          subst (λ (l : Ledger). (entered_of l (adds ws) ≡ Refused 15) ↔ (T (is_equation n words) × (LineModulus m q → ⊥))) (sym reads)
+          subst (λ (l : Ledger). (entered_of l (adds ws) ≡ Err 15) ↔ (T (is_equation n words) × (LineModulus m q → ⊥))) (sym reads)
           (fifteen_said m n ls ws);
       accepted = λ k said.
           let none = holds_said (opened m n ls) (adds ws) k (ap (λ (l : Ledger). entered_of l (adds ws)) (sym reads) ∙ said) in

@@ -4,18 +4,18 @@
 --   wrote_is, wrote_few                                 what is said to be written, and that it is 545 memory words at most
 --   right-room                                          the room that question 8 asks for is right
 --   shown_wrote, shown_refused                          each way out of an answer from tape
---   shown_refusal                                       it says the refusal
 --   right-block                                         the ledger's block is right
 use mathlib.Core.Path.{◌≡◌, refl, sym, ◌∙◌}
 use mathlib.Core.Logic.Iff
 use mathlib.Core.Logic.{⊎_elim}
 use mathlib.Core.Bool.{Bool, true, false, cond}
 use mathlib.Core.List.{List, [], ◌∷◌}
-use Prim.Native.Nat.{ℕ, zero, suc, ◌<◌, ◌≤◌}
+use Prim.Native.Nat.{ℕ, ◌<◌, ◌≤◌}
 use native.Mathlib.Omega.{arith}
 use borrow.Author.Tests.{le-leb, lt-leb, ne_eqb, eqb-true}
 use lib.Dec.{T, eqb, leb→le}
 use lib.ListN.{length}
+use Rattle.std.specs.Prelude.{Ok, Err}
 use Rattle.slices.specs.Over.{over}
 use Rattle.questions.specs.Questions.{asks, unless_refused}
 use Rattle.questions.specs.Reply.{result_of, memory_after}
@@ -33,46 +33,44 @@ use Rattle.ledger.specs.Calls.{answers, answers_from_tape, queries}
 use Rattle.ledger.specs.Questions.{refusal_of}
 use Rattle.ledger.proofs.Questions.{accepted-yes}
 use Rattle.ledger.proofs.Answer.{answer_some, answer-none, answer_head, room_refuted, room_answered, answer-fits, answer-long}
-use Rattle.sheet.specs.declared.answering.Answered.TheVariants.{Wrote, Refused}
-use Rattle.sheet.specs.declared.answering.Shown.{Shown}
 use Rattle.sheet.specs.Record.{Sheet, ledger_of}
-use Rattle.sheet.specs.Calls.{answered_of, buffer_after, no_block, shown_of}
+use Rattle.sheet.specs.Calls.{answered_of, buffer_after, shown_of}
 use Rattle.sheet.specs.Promises.{RightBlock, RightRoom}
 use Rattle.sheet.proofs.Reading.{reads-allowed}
 
 module _ (l : Ledger) (old : List ℕ) where
-  pub answered_unopened : is_opened l ≡ false → (Refused 4 ≡ answered_of l old) × (old ≡ buffer_after l old)
+  pub answered_unopened : is_opened l ≡ false → (Err 4 ≡ answered_of l old) × (old ≡ buffer_after l old)
   unfolding answered_of buffer_after result_of memory_after
   answered_unopened h = (rw h, rw h)
 
   module _ (h : is_opened l ≡ true) where
-    pub answered_short : length old < answer_room l → (Refused 8 ≡ answered_of l old) × (old ≡ buffer_after l old)
+    pub answered_short : length old < answer_room l → (Err 8 ≡ answered_of l old) × (old ≡ buffer_after l old)
     unfolding answered_of buffer_after result_of memory_after
     answered_short short =
         let no = lt-leb (answer_room l) (length old) short in (rw (h, no), rw (h, no))
 
     pub answered_wrote : answer_room l ≤ length old
-        → (Wrote (length (answer_words l)) ≡ answered_of l old) × (over (answer_words l) old ≡ buffer_after l old)
+        → (Ok (length (answer_words l)) ≡ answered_of l old) × (over (answer_words l) old ≡ buffer_after l old)
     unfolding answered_of buffer_after result_of memory_after
     answered_wrote long =
         let yes = le-leb (answer_room l) (length old) long in (rw (h, yes), rw (h, yes))
 
   pub answered_asked : answered_of l old
-      ≡ unless_refused Refused (refusal_of l (queries (answers old))) (Wrote (length (answer_words l)))
+      ≡ unless_refused Err (refusal_of l (queries (answers old))) (Ok (length (answer_words l)))
   unfolding answered_of refusal_of
-  answered_asked = reply_result (asks 4 (is_opened l) ∷ []) (answer_room l) (Wrote (length (answer_words l))) (answer_words l) old Refused tt
+  answered_asked = reply_result (asks 4 (is_opened l) ∷ []) (answer_room l) (Ok (length (answer_words l))) (answer_words l) old Err tt
 
   pub buffer_asked : buffer_after l old
       ≡ unless_refused (λ (k : ℕ). old) (refusal_of l (queries (answers old))) (over (answer_words l) old)
   unfolding buffer_after refusal_of
-  buffer_asked = reply_memory (asks 4 (is_opened l) ∷ []) (answer_room l) (Wrote (length (answer_words l))) (answer_words l) old tt
+  buffer_asked = reply_memory (asks 4 (is_opened l) ∷ []) (answer_room l) (Ok (length (answer_words l))) (answer_words l) old tt
 
   -- what is said to be written is the answer, and the buffer has the room that is asked for
-  wrote_is : {k : ℕ} → answered_of l old ≡ Wrote k → T (is_opened l) × (k ≡ length (answer_words l)) × (answer_room l ≤ length old)
+  wrote_is : {k : ℕ} → answered_of l old ≡ Ok k → T (is_opened l) × (k ≡ length (answer_words l)) × (answer_room l ≤ length old)
   wrote_is {k} said = go (eqb (refusal_of l (queries (answers old))) 0) refl (sym answered_asked ∙ said)
     where
       go : (b : Bool) → eqb (refusal_of l (queries (answers old))) 0 ≡ b
-          → cond b (Wrote (length (answer_words l))) (Refused (refusal_of l (queries (answers old)))) ≡ Wrote k
+          → cond b (Ok (length (answer_words l))) (Err (refusal_of l (queries (answers old)))) ≡ Ok k
           → T (is_opened l) × (k ≡ length (answer_words l)) × (answer_room l ≤ length old)
       go true none h =
           let same : k ≡ length (answer_words l) = cc in
@@ -90,31 +88,20 @@ words_few (opened m n ls) is allowed =
       answer-long m n ls pos allowed.moduli allowed.shaped allowed.equations allowed.unknowns,
     )
 
-pub wrote_few : (s : Sheet) (old : List ℕ) {k : ℕ} → answered_of (ledger_of s) old ≡ Wrote k → k ≤ longest_memory
+pub wrote_few : (s : Sheet) (old : List ℕ) {k : ℕ} → answered_of (ledger_of s) old ≡ Ok k → k ≤ longest_memory
 wrote_few s old said =
     let is = wrote_is (ledger_of s) old said in
     omega (arith, is.1, words_few (ledger_of s) is.0 (reads-allowed s is.0))
 
-module _ (l : Ledger) (number : ℕ) {k : ℕ} (is : k ≡ refusal_of l (queries (answers_from_tape number))) {b : Answer} where
-  pub shown_wrote : refusal_of l (queries (answers_from_tape number)) ≡ 0 → b ≡ answer_from (line_block (modulus_of l) (unknowns_of l) (lines_in l))
-      → ◌≡◌ {A = Shown} (record { refused = k; block = b }) (shown_of l number)
+module _ (l : Ledger) (number : ℕ) where
+  pub shown_wrote : refusal_of l (queries (answers_from_tape number)) ≡ 0 → (b : Answer)
+      → b ≡ answer_from (line_block (modulus_of l) (unknowns_of l) (lines_in l)) → Ok b ≡ shown_of l number
   unfolding shown_of
-  shown_wrote accepted made = rw (is, made, accepted)
+  shown_wrote accepted b made = rw (made, accepted)
 
-  pub shown_refused : (k ≡ 0 → ⊥) → b ≡ no_block → ◌≡◌ {A = Shown} (record { refused = k; block = b }) (shown_of l number)
+  pub shown_refused : {k : ℕ} → k ≡ refusal_of l (queries (answers_from_tape number)) → (k ≡ 0 → ⊥) → Err k ≡ shown_of l number
   unfolding shown_of
-  shown_refused some none = rw (none, ← is, ne_eqb k 0 some)
-
-pub shown_refusal : (l : Ledger) (number : ℕ) → (shown_of l number).refused ≡ refusal_of l (queries (answers_from_tape number))
-unfolding shown_of
-shown_refusal l number = either (refusal_of l (queries (answers_from_tape number)))
-  where
-    either : (k : ℕ)
-        → (unless_refused {A = Shown} (λ (j : ℕ). record { refused = j; block = no_block }) k
-        (record { refused = 0; block = answer_from (line_block (modulus_of l) (unknowns_of l) (lines_in l)) })).refused
-        ≡ k
-    either zero = refl
-    either (suc k) = rw (ne_eqb (suc k) 0 (λ e. omega arith))
+  shown_refused {k} is some = rw (← is, ne_eqb k 0 some)
 
 module _ (m n : ℕ) (ls : List Line) (pos : 0 < m) (moduli : Moduli m ls) (shaped : ShapedLines n ls) where
   pub right-block : RightBlock m n ls (answer_words (opened m n ls))

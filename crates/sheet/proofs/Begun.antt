@@ -4,6 +4,7 @@ use mathlib.Core.Logic.{◌↔◌}
 use mathlib.Core.List.{List}
 use Prim.Native.Nat.{ℕ, ◌≤◌}
 use lib.Dec.{T}
+use Rattle.std.specs.Prelude.{Ok, Err}
 use Rattle.questions.specs.Questions.{allowed_modulus, largest_modulus}
 use Rattle.questions.proofs.Questions.{within_range}
 use Rattle.equations.proofs.Truth.{true_of}
@@ -14,7 +15,6 @@ use Rattle.ledger.specs.Calls.{opens, enters}
 use Rattle.ledger.specs.Questions.{allowed_unknowns, refusal_of}
 use Rattle.ledger.proofs.Shapes.{opening_tops}
 use Rattle.ledger.proofs.Questions.{accepted-yes}
-use Rattle.sheet.specs.declared.Entered.TheVariants.{Holds, Refused}
 use Rattle.sheet.specs.Record.{Sheet, ledger_of}
 use Rattle.sheet.specs.Calls.{entered_of}
 use Rattle.sheet.specs.Promises.{RightOpening}
@@ -32,7 +32,7 @@ module _ (l : Ledger) (ws : List ℕ) where
       T (is_opening (words_in ws)) × ((2 ≤ number_at (words_in ws) 0) × (number_at (words_in ws) 0 ≤ largest_modulus))
       × ((1 ≤ number_at (words_in ws) 1) × (number_at (words_in ws) 1 ≤ most_unknowns))
 
-  seventeen : (entered_of l (opens ws) ≡ Refused 17) ↔ (T (tops_fit (words_in ws)) → ⊥)
+  seventeen : (entered_of l (opens ws) ≡ Err 17) ↔ (T (tops_fit (words_in ws)) → ⊥)
   seventeen = let said = refused_said l (opens ws) 17 0 tt tt in ((λ refused. said.0 refused), λ wrong. said.1 wrong)
 
   accepted_where : (refusal_of l (enters (opens ws)) ≡ 0) ↔ Right
@@ -50,7 +50,7 @@ module _ (l : Ledger) (ws : List ℕ) where
         ),
   )
 
-  allowed : (entered_of l (opens ws) ≡ Holds 0) ↔ Right
+  allowed : (entered_of l (opens ws) ≡ Ok 0) ↔ Right
   allowed = (
     (λ said. accepted_where.0 (holds_said l (opens ws) 0 said)),
     λ right. accepted_said l (opens ws) (accepted_where.1 right) refl,

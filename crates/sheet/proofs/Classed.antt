@@ -11,6 +11,7 @@ use native.Mathlib.Omega.{arith}
 use borrow.Author.Tests.{le-leb, ne_eqb}
 use lib.Dec.{T, eqb, ltb, ltb→lt}
 use lib.ListN.{length, drop, get_or, get_or-append}
+use Rattle.std.specs.Prelude.{Ok, Err}
 use Rattle.slices.specs.Over.{over}
 use Rattle.slices.proofs.Over.{over_past, over-long}
 use Rattle.questions.specs.Questions.{unless_refused}
@@ -33,8 +34,6 @@ use Rattle.ledger.specs.Questions.{questions, refusal_of}
 use Rattle.ledger.proofs.Shapes.{claim_tops}
 use Rattle.ledger.proofs.Questions.{refused_exactly}
 use Rattle.ledger.proofs.Classes.{stray_first, stray_alone, stray_shape}
-use Rattle.sheet.specs.declared.marking.Marked.TheVariants.{Gets, Refused as Marked-as-Refused}
-use Rattle.sheet.specs.declared.classing.Classed.TheVariants.{Claims}
 use Rattle.sheet.specs.Record.{Sheet, ledger_of}
 use Rattle.sheet.specs.Calls.{marked_of, mark_byte, class_bytes, classed_of, marks_after}
 use Rattle.sheet.specs.Promises.{WellFormed, RightMark, RightByte, RightMarks, RightClass, StrayWords}
@@ -52,10 +51,10 @@ numbers_apart : Apart mark_number
 numbers_apart = record { pass_fail = λ same. omega arith; long_fail = λ same. omega arith; pass-long = λ same. omega arith }
 
 -- a byte above 100 is "the refusal number plus 100"
-by_refusal : (r k : ℕ) (mark : Mark) → 0 < k → (mark_byte (unless_refused Marked-as-Refused r (Gets mark)) ≡ 100 + k) ↔ (r ≡ k)
+by_refusal : (r k : ℕ) (mark : Mark) → 0 < k → (mark_byte (unless_refused Err r (Ok mark)) ≡ 100 + k) ↔ (r ≡ k)
 by_refusal zero k mark some = ((λ e. absurd (omega (arith, mark-small mark, e))), λ is. absurd (omega (arith, some, is)))
 by_refusal (suc r) k mark some =
-    subst (λ (b : Bool). (mark_byte (cond b (Gets mark) (Marked-as-Refused (suc r))) ≡ 100 + k) ↔ (suc r ≡ k)) (sym (ne_eqb (suc r) 0 (λ e. omega (arith, e))))
+    subst (λ (b : Bool). (mark_byte (cond b (Ok mark) (Err (suc r))) ≡ 100 + k) ↔ (suc r ≡ k)) (sym (ne_eqb (suc r) 0 (λ e. omega (arith, e))))
     ((λ e. omega (arith, e)), λ is. ap (λ (j : ℕ). 100 + j) is)
 
 module _ (m n : ℕ) (ls : List Line) (ws : List ℕ) where
@@ -154,7 +153,7 @@ module _ (m n : ℕ) (ls : List Line) (pos : 0 < m) (ws old : List ℕ) where
               ap (λ (xs : List ℕ). get_or xs i 0) after ∙ over_past (class_bytes l ws) old i 0 (omega (arith, bytes_count l ws));
         }
 
-  allowed : (classed_of l ws old ≡ Claims (length (claims_in n ws))) ↔ Fit
+  allowed : (classed_of l ws old ≡ Ok (length (claims_in n ws))) ↔ Fit
   allowed = (
     (λ is. let accepted = class_accepted l ws old is in (class_few l ws old accepted, class_fits l ws old accepted)),
     λ fit. sym (class_marked l ws old (fit-accepted fit) refl refl).0,
@@ -163,7 +162,7 @@ module _ (m n : ℕ) (ls : List Line) (pos : 0 < m) (ws old : List ℕ) where
   pub right_class : (s : Sheet) → ledger_of s ≡ opened m n ls → RightClass s m n ls ws old
   right_class s reads =
       record {
-        allowed = subst (λ (k : Ledger). (classed_of k ws old ≡ Claims (length claims)) ↔ Fit) (sym reads) allowed;
+        allowed = subst (λ (k : Ledger). (classed_of k ws old ≡ Ok (length claims)) ↔ Fit) (sym reads) allowed;
         accepted = λ is.
             subst (λ (k : Ledger). RightMarks s m n ls claims old (marks_after k ws old)) (sym reads)
             (right-marks (class_accepted l ws old (ap (λ (k : Ledger). classed_of k ws old) (sym reads) ∙ is)) s reads);

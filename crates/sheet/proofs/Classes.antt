@@ -1,10 +1,10 @@
 -- A class: its bytes one after the other, and what is given back and left of the marks.
---   byte_fits                       the number of a refused claim is small
 --   map_at                          one byte of all
 --   bytes_count                     there are as many as claims
 --   BytesSo                         the bytes of the first i claims are written, and the claims behind them are those of the rest
 --   bytes-none, bytes_more, -all    before the first claim, a claim more, and after the last
---   bytes_left                      there is a byte for the next claim
+--   bytes_left                      there is a byte for the next claim,
+--   bytes-full                      so no claim is left where no byte is
 --   classed_asked, marks-asked      what the call gives and leaves, by its questions
 --   class_refused                   a refused class
 --   class_accepted, claims_few      what is said to be marked was accepted, and is at most 64 claims
@@ -14,59 +14,29 @@
 use mathlib.Core.Path.{◌≡◌, refl, sym, ap, ◌∙◌}
 use mathlib.Core.Bool.{Bool, true, false, cond}
 use mathlib.Core.List.{List, [], ◌∷◌, map}
+use mathlib.Core.Logic.{⊎_elim}
 use Prim.Native.Nat.{ℕ, zero, suc, ◌+◌, ◌-◌, ◌≤◌, ◌<◌, min}
+use native.Mathlib.Nat.{eq-zero-or-pos}
 use native.Mathlib.Numerals.{add-one}
 use native.Mathlib.Omega.{arith}
 use borrow.Author.Tests.{ne_eqb, eqb-true}
 use lib.Dec.{eqb, leb, leb→le}
 use lib.ListN.{length, take, drop, get_or, set, length-drop, length-map}
 use lib.Seq.{drop-cons}
+use Rattle.std.specs.Prelude.{Ok, Err}
 use Rattle.slices.specs.Over.{over}
 use Rattle.slices.proofs.Parts.{lent}
 use Rattle.slices.proofs.Copied.{Copied, copied_none, copied_more, copied_all}
 use Rattle.questions.specs.Questions.{asks, first_no, unless_refused}
 use Rattle.questions.proofs.Reply.{reply_result, reply_memory}
-use Rattle.equations.specs.declared.Mark.{Mark}
-use Rattle.equations.specs.Multipliers.{all_below}
-use Rattle.words.specs.Words.{words_in, tops_fit}
-use Rattle.ledger.specs.Ledger.{Ledger, is_opened, modulus_of, unknowns_of}
-use Rattle.ledger.specs.Shapes.{is_claim, entries_of}
-use Rattle.ledger.specs.Marking.{claim_mark}
+use Rattle.ledger.specs.Ledger.{Ledger, is_opened, unknowns_of}
 use Rattle.ledger.specs.Classes.{most_claims, first_claim, claims_in}
 use Rattle.ledger.specs.Calls.{classes, queries}
-use Rattle.ledger.specs.Questions.{mark_questions, refusal_of}
+use Rattle.ledger.specs.Questions.{refusal_of}
 use Rattle.ledger.proofs.Questions.{accepted-yes}
 use Rattle.ledger.proofs.Classes.{claims_taken, claims_end}
 use Rattle.asking.specs.Sees.{counted_claims}
-use Rattle.sheet.specs.declared.marking.Marked.TheVariants.{Gets, Refused as Marked-as-Refused}
-use Rattle.sheet.specs.declared.classing.Classed.TheVariants.{Claims, Refused}
 use Rattle.sheet.specs.Calls.{marked_of, mark_byte, claims_of, class_bytes, classed_of, marks_after}
-
--- ---- one byte
-
--- the questions of a mark have small numbers
-mark-number : (a b c d : Bool) → first_no (asks 4 a ∷ asks 17 b ∷ asks 1 c ∷ asks 6 d ∷ []) ≤ 17
-mark-number false b c d = omega arith
-mark-number true false c d = omega arith
-mark-number true true false d = omega arith
-mark-number true true true false = omega arith
-mark-number true true true true = omega arith
-
-pub byte_fits : (l : Ledger) (ws : List ℕ) (k : ℕ) → Marked-as-Refused k ≡ marked_of l ws → k ≤ 17
-unfolding marked_of refusal_of
-byte_fits l ws k is = go (eqb r 0) (claim_mark l ws) is
-  where
-    r : ℕ
-    r = first_no (mark_questions l ws)
-
-    go : (b : Bool) (mark : Mark) → Marked-as-Refused k ≡ cond b (Gets mark) (Marked-as-Refused r) → k ≤ 17
-    go true mark same = let z : ◌≡◌ {A = ℕ} 0 1 = cc in absurd (omega arith)
-    go false mark same =
-        let number : k ≡ r = cc in
-        omega (
-          arith,
-          mark-number (is_opened l) (tops_fit (words_in ws)) (is_claim (unknowns_of l) (words_in ws)) (all_below (modulus_of l) (entries_of (words_in ws))),
-        )
 
 -- ---- all bytes
 
@@ -112,6 +82,9 @@ module _ (l : Ledger) (words old : List ℕ) where
             ap (λ (k : ℕ). drop k (claims_of l words)) (add-one i) ∙ first.1,
           )
 
+    pub bytes-full : i ≡ length new → length rest ≡ 0
+    bytes-full end = ⊎_elim (λ none. none) (λ some. absurd (omega (arith, bytes_left some refl refl))) (eq-zero-or-pos (length rest))
+
     pub bytes-all : length rest ≡ 0 → new ≡ over (class_bytes l words) old
     bytes-all none =
         let behind : length (claims_of l words) - i ≡ 0 =
@@ -132,38 +105,38 @@ module _ (l : Ledger) (ws old : List ℕ) where
   same_number = ap number (bytes_count l ws)
 
   pub classed_asked : classed_of l ws old
-      ≡ unless_refused Refused (refusal_of l (queries (classes ws old))) (Claims (length (claims_of l ws)))
+      ≡ unless_refused Err (refusal_of l (queries (classes ws old))) (Ok (length (claims_of l ws)))
   unfolding classed_of refusal_of
   classed_asked =
-      reply_result (asks 4 (is_opened l) ∷ asks 14 (leb many most_claims) ∷ []) (length (class_bytes l ws)) (Claims many) (class_bytes l ws) old Refused tt
-      ∙ ap (λ (k : ℕ). unless_refused Refused k (Claims many)) same_number
+      reply_result (asks 4 (is_opened l) ∷ asks 14 (leb many most_claims) ∷ []) (length (class_bytes l ws)) (Ok many) (class_bytes l ws) old Err tt
+      ∙ ap (λ (k : ℕ). unless_refused Err k (Ok many)) same_number
 
   pub marks-asked : marks_after l ws old
       ≡ unless_refused (λ (k : ℕ). old) (refusal_of l (queries (classes ws old))) (over (class_bytes l ws) old)
   unfolding marks_after refusal_of
   marks-asked =
-      reply_memory (asks 4 (is_opened l) ∷ asks 14 (leb many most_claims) ∷ []) (length (class_bytes l ws)) (Claims many) (class_bytes l ws) old tt
+      reply_memory (asks 4 (is_opened l) ∷ asks 14 (leb many most_claims) ∷ []) (length (class_bytes l ws)) (Ok many) (class_bytes l ws) old tt
       ∙ ap (λ (k : ℕ). unless_refused (λ (j : ℕ). old) k (over (class_bytes l ws) old)) same_number
 
   pub class_refused : {k : ℕ} → k ≡ refusal_of l (queries (classes ws old)) → (k ≡ 0 → ⊥)
-      → (Refused k ≡ classed_of l ws old) × (old ≡ marks_after l ws old)
+      → (Err k ≡ classed_of l ws old) × (old ≡ marks_after l ws old)
   class_refused {k} is some = (
     sym (classed_asked ∙ rw (← is, ne_eqb k 0 some)),
     sym (marks-asked ∙ rw (← is, ne_eqb k 0 some)),
   )
 
   -- what is said to be marked was accepted
-  said : (k : ℕ) {count : ℕ} → unless_refused Refused k (Claims many) ≡ Claims count → (k ≡ 0) × (count ≡ many)
+  said : (k : ℕ) {count : ℕ} → unless_refused Err k (Ok many) ≡ Ok count → (k ≡ 0) × (count ≡ many)
   said k {count} is = go (eqb k 0) refl is
     where
-      go : (b : Bool) → eqb k 0 ≡ b → cond b (Claims many) (Refused k) ≡ Claims count → (k ≡ 0) × (count ≡ many)
+      go : (b : Bool) → eqb k 0 ≡ b → cond b (Ok many) (Err k) ≡ Ok count → (k ≡ 0) × (count ≡ many)
       go true none h = (eqb-true k 0 none, cc)
       go false some h = let z : ◌≡◌ {A = ℕ} 0 1 = cc in absurd (omega arith)
 
-  pub class_accepted : {count : ℕ} → classed_of l ws old ≡ Claims count → refusal_of l (queries (classes ws old)) ≡ 0
+  pub class_accepted : {count : ℕ} → classed_of l ws old ≡ Ok count → refusal_of l (queries (classes ws old)) ≡ 0
   class_accepted is = (said (refusal_of l (queries (classes ws old))) (sym classed_asked ∙ is)).0
 
-  pub claims_few : {count : ℕ} → classed_of l ws old ≡ Claims count → count ≤ most_claims
+  pub claims_few : {count : ℕ} → classed_of l ws old ≡ Ok count → count ≤ most_claims
   claims_few is =
       let few = (accepted-yes l (queries (classes ws old)) (class_accepted is)).1.0 in
       omega (arith, (said (refusal_of l (queries (classes ws old))) (sym classed_asked ∙ is)).1, leb→le many most_claims few)
@@ -181,8 +154,8 @@ module _ (l : Ledger) (ws old : List ℕ) where
         let same : length (claims_in n ws) ≡ many = ap (λ (k : ℕ). length (claims_in k ws)) same-n in omega (arith, class_few)
 
     pub class_marked : {count : ℕ} {new : List ℕ} → count ≡ length (claims_of l ws) → new ≡ over (class_bytes l ws) old
-        → (Claims count ≡ classed_of l ws old) × (new ≡ marks_after l ws old)
+        → (Ok count ≡ classed_of l ws old) × (new ≡ marks_after l ws old)
     class_marked counted written = (
-      ap (λ (k : ℕ). Claims k) counted ∙ sym (classed_asked ∙ rw accepted),
+      ap (λ (k : ℕ). Ok k) counted ∙ sym (classed_asked ∙ rw accepted),
       written ∙ sym (marks-asked ∙ rw accepted),
     )

@@ -5,7 +5,8 @@
 --   gain_fits, gain_accepted          there is room for the line of an accepted equation, it has residues mod its own modulus, and it is
 --                                     written
 --   add-opened                        an accepted equation is asked of an opened sheet
---   line-long, line_own, line_lies    the residues are those of its words,
+--   used_line                         its residues are taken by its own modulus,
+--   line-long, line_own, line_lies    they are those of its words,
 --   typed_lies                        or what the reader gives
 --   strike_opened, strike_some, strike_within, strike_accepted   an accepted strike has a line to strike, at its place
 use mathlib.Core.Path.{◌≡◌, refl, sym, ap, ap₂, subst, ◌∙◌}
@@ -18,6 +19,7 @@ use borrow.Author.Tests.{eq-eqb, ne_eqb}
 use lib.Dec.{T}
 use lib.ListN.{length, take, get_or, replicate}
 use lib.Seq.{take_all}
+use Rattle.std.specs.Prelude.{Ok, Err}
 use Rattle.slices.specs.Over.{over}
 use Rattle.slices.proofs.Over.{over-front}
 use Rattle.questions.specs.Questions.{allowed_own}
@@ -44,8 +46,8 @@ use Rattle.ledger.proofs.Shapes.{opening_length}
 use Rattle.ledger.proofs.Questions.{opens_any, accepted-yes}
 use Rattle.ledger.proofs.Effects.{Gains, Allows, residues-long, accepted_allows, enter-accepted, gains_counts, loses_counts}
 use Rattle.asking.specs.declared.Seen.{Seen}
-use Rattle.asking.specs.Sees.{Sees, opening_room, equation_room}
-use Rattle.sheet.specs.declared.Entered.TheVariants.{Holds, Refused}
+use Rattle.asking.specs.Sees.{Sees, opening_room, equation_room, used_modulus}
+use Rattle.asking.proofs.Owned.{used_own}
 use Rattle.sheet.specs.Record.{Sheet, modulus_in, unknowns_in, held_in, sheet_of, room, ledger_of, record_by}
 use Rattle.sheet.specs.Calls.{entered_of, sheet_after}
 use Rattle.sheet.proofs.Reading.{reads-allowed}
@@ -60,14 +62,14 @@ abbrev right_of : Equation → ℕ
 right_of e = e.right
 
 module _ (s : Sheet) (e : Entry) (number : ℕ) (is : number ≡ refusal_of (ledger_of s) (enters e)) where
-  pub entry_refused : (number ≡ 0 → ⊥) → (Refused number ≡ entered_of (ledger_of s) e) × (s ≡ sheet_after s e)
+  pub entry_refused : (number ≡ 0 → ⊥) → (Err number ≡ entered_of (ledger_of s) e) × (s ≡ sheet_after s e)
   unfolding sheet_after entered_of
   entry_refused some = let no = ne_eqb number 0 some in (rw (← is, no), rw (← is, no))
 
   -- the numbers that its effect makes, or others that are the same
   entry_accepted : number ≡ 0 → (effect : Effect) → effect_of (ledger_of s) e ≡ effect
       → (k : ℕ) → length (lines_in (changed (ledger_of s) effect)) ≡ k → {new : Sheet} → new ≡ record_by s effect
-      → (Holds k ≡ entered_of (ledger_of s) e) × (new ≡ sheet_after s e)
+      → (Ok k ≡ entered_of (ledger_of s) e) × (new ≡ sheet_after s e)
   unfolding sheet_after entered_of
   entry_accepted none effect same k counts made =
       let yes = eq-eqb number 0 none in (
@@ -95,7 +97,7 @@ module _ (ws : List ℕ) (number : ℕ) (is : number ≡ refusal_of unopened (en
     number_is i at = part_seen number_of opening_room ws old seen i (omega arith) (omega (arith, two, parts_count number_of (words_in ws)))
 
     pub open_accepted : (s : Sheet) {after : Sheet} → after ≡ sheet_of (get_or new 0 0) (get_or new 1 0) 0 (replicate most_equations 0) (replicate room 0)
-        → (Holds 0 ≡ entered_of (ledger_of s) (opens ws)) × (after ≡ sheet_after s (opens ws))
+        → (Ok 0 ≡ entered_of (ledger_of s) (opens ws)) × (after ≡ sheet_after s (opens ws))
     open_accepted s made =
         entry_accepted s (opens ws) number (open_is s) none _ refl 0 refl
         (made ∙ ap₂ (λ (m n : ℕ). sheet_of m n 0 (replicate most_equations 0) (replicate room 0)) (number_is 0 (omega arith)) (number_is 1 (omega arith)))
@@ -149,7 +151,7 @@ module _ (s : Sheet) (e : Entry) (gained : Line) (effect : effect_of (ledger_of 
     -- the line is written
     pub gain_accepted : {after : Sheet}
         → after ≡ record_by s (gains (record { modulus = q; equation = equation_at (unknowns_in s) line }))
-        → (Holds (seen.held + 1) ≡ entered_of (ledger_of s) e) × (after ≡ sheet_after s e)
+        → (Ok (seen.held + 1) ≡ entered_of (ledger_of s) e) × (after ≡ sheet_after s e)
     gain_accepted =
         entry_accepted s e number is none (gains (record { modulus = q; equation = equation_at (unknowns_in s) line }))
         (effect ∙ ap gains (ap₂ {C = Line} (λ (p : ℕ) (x : Equation). record { modulus = p; equation = x }) (sym own)
@@ -163,6 +165,16 @@ pub add-opened : (s : Sheet) (ws : List ℕ) {seen : Seen} → Sees (ledger_of s
     → number ≡ refusal_of (ledger_of s) (enters (adds ws)) → number ≡ 0 → T seen.opened
 add-opened s ws sees number is none =
     subst T (sym sees.opened) (accepted-yes (ledger_of s) (enters (adds ws)) (sym is ∙ none)).0
+
+pub used_line : (s : Sheet) (ws : List ℕ) {seen : Seen} → Sees (ledger_of s) seen → 0 ≡ refusal_of (ledger_of s) (enters (adds ws))
+    → {q : ℕ} → q ≡ own_modulus seen.modulus (words_in ws) → (old : List ℕ) {new : List ℕ}
+    → new ≡ over (take equation_room (residues_of (used_modulus seen.modulus (words_in ws)) (equation_words (words_in ws)))) old
+    → new ≡ over (take equation_room (residues_of q (equation_words (words_in ws)))) old
+used_line s ws {seen} sees is {q} own old front =
+    let asked = accepted-yes (ledger_of s) (enters (adds ws)) (sym is) in
+    let allowed = subst (λ (m : ℕ). T (allowed_own m (own_modulus m (words_in ws)))) (sym sees.modulus) asked.1.1.1.0 in
+    let used = used_own seen.modulus (own_modulus seen.modulus (words_in ws)) (allowed_own seen.modulus (own_modulus seen.modulus (words_in ws))) allowed in
+    front ∙ ap (λ (p : ℕ). over (take equation_room (residues_of p (equation_words (words_in ws)))) old) (used ∙ sym own)
 
 module _ (s : Sheet) (ws : List ℕ) {seen : Seen} (sees : Sees (ledger_of s) seen) (number q : ℕ)
     (is : number ≡ refusal_of (ledger_of s) (enters (adds ws))) (none : number ≡ 0)
@@ -229,7 +241,7 @@ module _ (s : Sheet) (place : ℕ) {seen : Seen} (sees : Sees (ledger_of s) seen
     strike_within = omega (arith, at_within, sees.held, seen_held s (true_of (is_opened (ledger_of s)) strike_opened) sees)
 
     pub strike_accepted : {after : Sheet} → after ≡ record_by s (loses at)
-        → (Holds (seen.held - 1) ≡ entered_of (ledger_of s) (strikes place)) × (after ≡ sheet_after s (strikes place))
+        → (Ok (seen.held - 1) ≡ entered_of (ledger_of s) (strikes place)) × (after ≡ sheet_after s (strikes place))
     strike_accepted =
         entry_accepted s (strikes place) number is none (loses at) (ap loses (sym same_place)) (seen.held - 1)
         (loses_counts (ledger_of s) at at_within ∙ ap (λ (k : ℕ). k - 1) (sym sees.held))

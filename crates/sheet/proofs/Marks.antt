@@ -6,15 +6,16 @@
 --                      a step is superfluous
 --   right-mark         so it is marked
 --   own_mark           an answer's own words, where there is a solution, pass or are long
-use mathlib.Core.Path.{◌≡◌, refl, ◌∙◌}
-use mathlib.Core.Logic.{◌↔◌, ◌⊎◌, inl, inr}
+use mathlib.Core.Path.{◌≡◌, refl}
+use mathlib.Core.Logic.{◌↔◌}
 use mathlib.Core.List.{List}
 use mathlib.Core.Option.{some}
 use Prim.Native.Nat.{ℕ, ◌<◌, ◌≤◌}
 use native.Mathlib.Omega.{arith}
 use lib.Dec.{T}
+use Rattle.std.specs.Prelude.{Result, Ok, Err}
 use Rattle.questions.specs.Questions.{largest_modulus}
-use Rattle.questions.proofs.Questions.{unless_either}
+use Rattle.questions.proofs.Results.{gives-ok, gives-err}
 use Rattle.equations.specs.declared.Mark.{Mark}
 use Rattle.equations.specs.Line.{Line, Moduli, line_start, line_is_right, line_mark}
 use Rattle.equations.specs.Multipliers.{all_below}
@@ -33,11 +34,10 @@ use Rattle.ledger.specs.Questions.{refusal_of}
 use Rattle.ledger.proofs.Shapes.{claimed}
 use Rattle.ledger.proofs.Refusals.{marks-accepted}
 use Rattle.ledger.proofs.Own.{own_shape, own_entries, own_claim}
-use Rattle.sheet.specs.declared.marking.Marked.TheVariants.{Gets, Refused}
 use Rattle.sheet.specs.Calls.{marked_of}
 use Rattle.sheet.specs.Promises.{WellFormed, DescribesSolutions, RightMark, OwnMark}
 
-pub marked-accepted : (l : Ledger) (ws : List ℕ) → refusal_of l (queries (marks ws)) ≡ 0 → marked_of l ws ≡ Gets (claim_mark l ws)
+pub marked-accepted : (l : Ledger) (ws : List ℕ) → refusal_of l (queries (marks ws)) ≡ 0 → marked_of l ws ≡ Ok (claim_mark l ws)
 unfolding marked_of
 marked-accepted l ws accepted = rw accepted
 
@@ -45,24 +45,15 @@ module _ (l : Ledger) (ws : List ℕ) where
   abbrev asked : ℕ
   asked = refusal_of l (queries (marks ws))
 
-  pub mark-accepted : {mark : Mark} → marked_of l ws ≡ Gets mark → refusal_of l (queries (marks ws)) ≡ 0
+  pub mark-accepted : {mark : Mark} → marked_of l ws ≡ Ok mark → refusal_of l (queries (marks ws)) ≡ 0
   unfolding marked_of
-  mark-accepted {mark} is = by (unless_either Refused asked (Gets (claim_mark l ws)) (Gets mark) is)
-    where
-      by : ((asked ≡ 0) × (Gets (claim_mark l ws) ≡ Gets mark)) ⊎ ((asked ≡ 0 → ⊥) × (Refused asked ≡ Gets mark)) → asked ≡ 0
-      by (inl (none, same)) = none
-      by (inr (refused, same)) = let z : ◌≡◌ {A = ℕ} 0 1 = cc in absurd (omega arith)
+  mark-accepted is = (gives-ok asked (claim_mark l ws) is).0
 
-  pub mark_refused : {k : ℕ} → marked_of l ws ≡ Refused k → (refusal_of l (queries (marks ws)) ≡ k) × (k ≡ 0 → ⊥)
+  pub mark_refused : {k : ℕ} → marked_of l ws ≡ Err k → (refusal_of l (queries (marks ws)) ≡ k) × (k ≡ 0 → ⊥)
   unfolding marked_of
-  mark_refused {k} is = by (unless_either Refused asked (Gets (claim_mark l ws)) (Refused k) is)
-    where
-      by : ((asked ≡ 0) × (Gets (claim_mark l ws) ≡ Refused k)) ⊎ ((asked ≡ 0 → ⊥) × (Refused asked ≡ Refused k))
-          → (asked ≡ k) × (k ≡ 0 → ⊥)
-      by (inl (none, same)) = let z : ◌≡◌ {A = ℕ} 0 1 = cc in absurd (omega arith)
-      by (inr (refused, same)) = let e : asked ≡ k = cc in (e, λ z. refused (e ∙ z))
+  mark_refused is = gives-err asked (claim_mark l ws) is
 
-gets_apart : Apart Gets
+gets_apart : Apart {A = Result Mark ℕ} Ok
 gets_apart = record {
   pass_fail = λ same. let z : ◌≡◌ {A = ℕ} 0 1 = cc in omega arith;
   long_fail = λ same. let z : ◌≡◌ {A = ℕ} 0 1 = cc in omega arith;
@@ -90,9 +81,9 @@ module _ (m n : ℕ) (ls : List Line) where
       mark_tells shown apart m n claim (line_is_right m n ls claim) (well_described pos ws well)
 
   pub right-mark : 0 < m → (ws : List ℕ) → WellFormed m n ws
-      → RightMark Gets m n ls (claim_from n (words_in ws)) (marked_of (opened m n ls) ws)
+      → RightMark Ok m n ls (claim_from n (words_in ws)) (marked_of (opened m n ls) ws)
   right-mark pos ws well =
-      rw (marked-accepted (opened m n ls) ws (well_accepted ws well)) (claim_tells pos ws well Gets gets_apart)
+      rw (marked-accepted (opened m n ls) ws (well_accepted ws well)) (claim_tells pos ws well Ok gets_apart)
 
   pub own_mark : 0 < m → Moduli m ls → m ≤ largest_modulus → 0 < n → n ≤ 16 → (c : List ℕ) → line_start m n ls ≡ some c
       → OwnMark (marked_of (opened m n ls) (answer_words (opened m n ls)))

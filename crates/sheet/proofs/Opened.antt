@@ -2,11 +2,12 @@
 --   modulus_not, unknowns_not, equations_not, residues_not, moduli_decide   one test of that after the other
 --   lines_to_lem, own_to, as_many       the lines and their moduli, up to their ends
 --   sees-read, sees-unopened        what the questions see
---   views                           what queries see
 --   seen_modulus, seen_unknowns, seen_held   of an opened sheet these are the record's
---   viewed_block                    the block of the lines that queries see is the ledger's
+--   viewed_posed, viewed_lines      the lines that queries see are a system mod m, that of the ledger's lines
+--   viewed_block                    and their block is the ledger's
 use mathlib.Core.Path.{◌≡◌, refl, sym, ap, ap₂, subst, ◌∙◌}
 use mathlib.Core.Bool.{Bool, true, false, cond}
+use mathlib.Core.List.{List}
 use Prim.Native.Nat.{ℕ, ◌+◌, ◌-◌, ◌*◌, ◌<◌, ◌≤◌}
 use native.Mathlib.Nat.{mul-le-mul}
 use native.Mathlib.Omega.{arith}
@@ -31,8 +32,8 @@ use Rattle.asking.specs.declared.Seen.{Seen}
 use Rattle.asking.specs.Sees.{Sees}
 use Rattle.sheet.specs.declared.viewing.View.{View}
 use Rattle.sheet.specs.Record.{Sheet, modulus_in, unknowns_in, held_in, cells_in, size, own_in, numbers_in, lying_in, readable, ledger_of}
-use Rattle.sheet.specs.View.{lines_to, Views}
-use Rattle.sheet.proofs.Reading.{Fit, lines-size, readable-fit, filled_fits, ledger-opened, ledger-unopened, opened-posed, lines_lie, held_counts, reads-allowed}
+use Rattle.sheet.specs.View.{lines_of}
+use Rattle.sheet.proofs.Reading.{Fit, lines-size, readable-fit, ledger-opened, ledger-unopened, opened-posed, lines_lie, held_counts, reads-allowed}
 
 module _ (s : Sheet) where
   opened_is : is_opened (ledger_of s) ≡ readable s
@@ -45,7 +46,7 @@ module _ (s : Sheet) where
       go false = refl
 
   -- the lines up to their end, where the unknowns and the equations held have other names too
-  pub lines_to_lem : {n held : ℕ} (end : ℕ) → end ≡ 19 + held * (n + 1) → n ≡ unknowns_in s → held ≡ held_in s → lines_to end s ≡ numbers_in s
+  pub lines_to_lem : {n held : ℕ} (end : ℕ) → end ≡ 19 + held * (n + 1) → n ≡ unknowns_in s → held ≡ held_in s → take (end - 19) (cells_in s) ≡ numbers_in s
   lines_to_lem {n} {held} end at same-n same-held =
       let count : end - 19 ≡ held_in s * (unknowns_in s + 1) = omega (arith, at, lines-size same-held same-n) in
       ap (λ (k : ℕ). take k (cells_in s)) count
@@ -130,42 +131,35 @@ module _ (s : Sheet) where
       pub seen_held : seen.held ≡ held_in s
       seen_held = sees.held ∙ held_counts s reads
 
-      -- the numbers up to the end that queries see
-      module _ (end : ℕ) (at : end ≡ 19 + seen.held * (seen.unknowns + 1)) where
-        lines_are : lines_to end s ≡ numbers_in s
-        lines_are = lines_to_lem end at seen_unknowns seen_held
+-- ---- what follows of a view of an opened sheet
 
-        lines_fit : end ≤ length s
-        lines_fit =
-            let filled : seen.held * (seen.unknowns + 1) ≤ length (cells_in s) = rw (seen_held, seen_unknowns) (filled_fits s opened-fit) in
-            omega (arith, at, filled, opened-fit.whole, length-drop 19 s)
+module _ (v : View) (is : T (is_opened (ledger_of v.sheet.now))) where
+  yes : is_opened (ledger_of v.sheet.now) ≡ true
+  yes = true_of (is_opened (ledger_of v.sheet.now)) is
 
-        posed : Posed seen.modulus seen.unknowns (lines_to end s)
-        posed = rw (lines_are, seen_modulus, seen_unknowns) (opened-posed s reads)
+  modulus_is : v.seen.modulus ≡ modulus_in v.sheet.now
+  modulus_is = seen_modulus v.sheet.now yes v.sees
 
-        equations_are : equations_of seen.unknowns (lines_to end s) ≡ scaled (modulus_of (ledger_of s)) (lines_in (ledger_of s))
-        equations_are = rw (lines_are, seen_unknowns) (lines_lie s reads)
+  unknowns_are : v.seen.unknowns ≡ unknowns_in v.sheet.now
+  unknowns_are = seen_unknowns v.sheet.now yes v.sees
 
-  pub views : {seen : Seen} (sees : Sees (ledger_of s) seen) (end : ℕ) → end ≡ 19 + seen.held * (seen.unknowns + 1)
-      → Views s (record { seen = seen; end = end })
-  views sees end at =
-      let yes : T (is_opened (ledger_of s)) → is_opened (ledger_of s) ≡ true = true_of (is_opened (ledger_of s)) in
-      record {
-        sees = sees;
-        begins = omega (arith, at);
-        fits = λ is. lines_fit (yes is) sees end at;
-        posed = λ is. posed (yes is) sees end at;
-        equations = λ is. equations_are (yes is) sees end at;
-      }
+  lines_are : lines_of v ≡ numbers_in v.sheet.now
+  lines_are = ap (λ (k : ℕ). take k (cells_in v.sheet.now)) (lines-size (seen_held v.sheet.now yes v.sees) unknowns_are)
 
--- ---- what follows from what queries see
+  module _ {lines : List ℕ} (lie : lines ≡ lines_of v) where
+    pub viewed_posed : Posed v.seen.modulus v.seen.unknowns lines
+    viewed_posed = rw (lie, lines_are, modulus_is, unknowns_are) (opened-posed v.sheet.now (reads v.sheet.now yes))
 
-pub viewed_block : {s : Sheet} {view : View} {b : Answer} → Views s view → T (is_opened (ledger_of s))
-    → b ≡ answer_of view.seen.modulus view.seen.unknowns (equations_of view.seen.unknowns (lines_to view.end s))
-    → b ≡ answer_from (line_block (modulus_of (ledger_of s)) (unknowns_of (ledger_of s)) (lines_in (ledger_of s)))
-unfolding answer_of
-viewed_block {s} {view} v is made =
-    let allowed = reads-allowed s is in
-    made ∙ ap (answer_of view.seen.modulus view.seen.unknowns) (v.equations is)
-    ∙ ap₂ (λ (m n : ℕ). answer_of m n (scaled (modulus_of (ledger_of s)) (lines_in (ledger_of s)))) v.sees.modulus v.sees.unknowns
-    ∙ ap answer_from (sym (line-block _ _ (omega (arith, allowed.modulus)) (lines_in (ledger_of s)) allowed.moduli))
+    pub viewed_lines : equations_of v.seen.unknowns lines ≡ scaled (modulus_of (ledger_of v.sheet.now)) (lines_in (ledger_of v.sheet.now))
+    viewed_lines = rw (lie, lines_are, unknowns_are) (lines_lie v.sheet.now (reads v.sheet.now yes))
+
+    pub viewed_block : {b : Answer} → b ≡ answer_of v.seen.modulus v.seen.unknowns (equations_of v.seen.unknowns lines)
+        → b
+        ≡ answer_from (line_block (modulus_of (ledger_of v.sheet.now)) (unknowns_of (ledger_of v.sheet.now)) (lines_in (ledger_of v.sheet.now)))
+    unfolding answer_of
+    viewed_block made =
+        let l = ledger_of v.sheet.now in
+        let allowed = reads-allowed v.sheet.now is in
+        made ∙ ap (answer_of v.seen.modulus v.seen.unknowns) viewed_lines
+        ∙ ap₂ (λ (m n : ℕ). answer_of m n (scaled (modulus_of l) (lines_in l))) v.sees.modulus v.sees.unknowns
+        ∙ ap answer_from (sym (line-block _ _ (omega (arith, allowed.modulus)) (lines_in l) allowed.moduli))

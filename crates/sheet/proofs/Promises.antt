@@ -21,10 +21,13 @@ use native.Mathlib.Omega.{arith}
 use borrow.Author.Tests.{ne_eqb}
 use lib.ListN.{length, take}
 use lib.Dec.{T, eqb→eq}
+use Rattle.std.specs.Prelude.{Ok}
 use Rattle.slices.specs.Over.{over}
 use Rattle.slices.proofs.Over.{over-front}
 use Rattle.equations.specs.Line.{Line, line_start}
 use Rattle.equations.proofs.LinePromises.{line_no_start}
+use Rattle.system.specs.Block.{answer_from}
+use Rattle.system.specs.Lines.{line_block}
 use Rattle.system.proofs.Lines.{line_start_found}
 use Rattle.words.specs.Words.{words_in}
 use Rattle.ledger.specs.Ledger.{Ledger, opened, is_opened, modulus_of, unknowns_of, lines_in}
@@ -38,8 +41,6 @@ use Rattle.ledger.proofs.Answer.{room_answered}
 use Rattle.ledger.proofs.Own.{own_claim}
 use Rattle.ledger.proofs.Refusals.{answers-word-plain}
 use Rattle.ledger.proofs.History.{Opened, opening_opens}
-use Rattle.sheet.specs.declared.answering.Answered.TheVariants.{Wrote}
-use Rattle.sheet.specs.declared.marking.Marked.TheVariants.{Gets}
 use Rattle.sheet.specs.Record.{Sheet, fresh, ledger_of}
 use Rattle.sheet.specs.Calls.{entered_of, answered_of, buffer_after, shown_of, marked_of, reasoned_of, shown_after, classed_of, marks_after}
 use Rattle.sheet.specs.History.{sheet_from, after}
@@ -47,7 +48,7 @@ use Rattle.sheet.specs.Promises.{NothingSolves, Shows, RightMark, OwnMark, Right
 use Rattle.sheet.proofs.Reading.{reads-allowed}
 use Rattle.sheet.proofs.History.{from-reads, fresh-unopened, after-reads, left_refused}
 use Rattle.sheet.proofs.Solved.{solved_words, shown-block}
-use Rattle.sheet.proofs.Answers.{answered_short, answered_wrote, answered_asked, buffer_asked, shown_refusal, right-block, right-room}
+use Rattle.sheet.proofs.Answers.{answered_short, answered_wrote, answered_asked, buffer_asked, right-block, right-room}
 use Rattle.sheet.proofs.Marks.{right-mark, own_mark}
 use Rattle.sheet.proofs.Reasoned.{reasoned_asked, shown-asked}
 use Rattle.sheet.proofs.Reasons.{right-reason, same_refusal}
@@ -73,18 +74,17 @@ module _ (s : Sheet) (m n : ℕ) (ls : List Line) (reads : ledger_of s ≡ opene
   block = answer_words (opened m n ls)
 
   wrote : (old : List ℕ) → answer_room (opened m n ls) ≤ length old
-      → (answered_of (ledger_of s) old ≡ Wrote (length block)) × (buffer_after (ledger_of s) old ≡ over block old)
+      → (answered_of (ledger_of s) old ≡ Ok (length block)) × (buffer_after (ledger_of s) old ≡ over block old)
   wrote old long =
       let w = answered_wrote (opened m n ls) old refl long in
-      subst (λ (l : Ledger). (answered_of l old ≡ Wrote (length block)) × (buffer_after l old ≡ over block old)) (sym reads)
+      subst (λ (l : Ledger). (answered_of l old ≡ Ok (length block)) × (buffer_after l old ≡ over block old)) (sym reads)
       (sym w.0, sym w.1)
 
   shows : (number : ℕ) → number ≡ 0 → Shows block (shown_of (opened m n ls) number)
   shows number none =
-      let accepted = answers-word-plain (opened m n ls) refl number none in (
-        shown_refusal (opened m n ls) number ∙ accepted,
-        solved_words (opened m n ls) allowed (shown_of (opened m n ls) number).block (shown-block (opened m n ls) number accepted) tt,
-      )
+      let accepted = answers-word-plain (opened m n ls) refl number none in
+      subst (Shows block) (sym (shown-block (opened m n ls) number accepted))
+      (solved_words (opened m n ls) allowed (answer_from (line_block m n ls)) refl tt)
 
   right-sheet : RightSheet s m n ls
   right-sheet =
@@ -99,7 +99,7 @@ module _ (s : Sheet) (m n : ℕ) (ls : List Line) (reads : ledger_of s ≡ opene
         answer_from_tape = λ number none.
             subst (λ (l : Ledger). Shows block (shown_of l number)) (sym reads) (shows number (eqb→eq number 0 none));
         mark = λ ws well.
-            subst (λ (l : Ledger). RightMark Gets m n ls (claim_from n (words_in ws)) (marked_of l ws)) (sym reads)
+            subst (λ (l : Ledger). RightMark Ok m n ls (claim_from n (words_in ws)) (marked_of l ws)) (sym reads)
             (right-mark m n ls positive ws well);
       }
 

@@ -14,6 +14,7 @@ use native.Mathlib.Omega.{arith}
 use lib.Dec.{T}
 use lib.ListN.{length, take, drop, get_or, replicate}
 use lib.Seq.{length-take-le}
+use Rattle.std.specs.Prelude.{Ok}
 use Rattle.slices.proofs.Over.{over-fits}
 use Rattle.equations.specs.Vectors.{Below}
 use Rattle.system.specs.declared.solving.Answer.{Answer}
@@ -110,6 +111,6 @@ module _ (l : Ledger) (allowed : Allowed (modulus_of l) (unknowns_of l) (lines_i
     solved_fits = omega (arith, solved_room, room_fits m b.head (take b.len b.numbers) residues)
 
 pub shown-block : (l : Ledger) (number : ℕ) → refusal_of l (queries (answers_from_tape number)) ≡ 0
-    → (shown_of l number).block ≡ answer_from (line_block (modulus_of l) (unknowns_of l) (lines_in l))
+    → shown_of l number ≡ Ok (answer_from (line_block (modulus_of l) (unknowns_of l) (lines_in l)))
 unfolding shown_of
 shown-block l number accepted = rw accepted

@@ -7,6 +7,7 @@ use native.Mathlib.Omega.{arith}
 use borrow.Author.Tests.{lt-ltb, le-leb, lt-leb, leb-false}
 use lib.Dec.{T, leb, ltb, lt→ltb}
 use lib.ListN.{length, length-append}
+use Rattle.std.specs.Prelude.{Err}
 use Rattle.equations.specs.Lists.{without}
 use Rattle.equations.specs.Line.{Line}
 use Rattle.equations.proofs.Truth.{false_of, of_false}
@@ -14,7 +15,6 @@ use Rattle.ledger.specs.Ledger.{Ledger, opened}
 use Rattle.ledger.specs.Calls.{strikes, enters}
 use Rattle.ledger.specs.Questions.{refusal_of}
 use Rattle.ledger.specs.History.{struck_at, effect_of, changed}
-use Rattle.sheet.specs.declared.Entered.TheVariants.{Refused}
 use Rattle.sheet.specs.Record.{ledger_of}
 use Rattle.sheet.specs.Calls.{entered_of, sheet_after}
 use Rattle.sheet.specs.Promises.{PlaceBetween, RightAlways, StruckAlways}
@@ -38,12 +38,12 @@ module _ (m n : ℕ) (ls : List Line) (place : ℕ) where
   abbrev l : Ledger
   l = opened m n ls
 
-  seven_said : (entered_of (opened m n ls) (strikes place) ≡ Refused 7) ↔ (ls ≡ [])
+  seven_said : (entered_of (opened m n ls) (strikes place) ≡ Err 7) ↔ (ls ≡ [])
   seven_said =
       let said = refused_said l (strikes place) 7 1 tt tt in
       ((λ refused. (none-held ls).0 (said.0 refused).1), λ none. said.1 (tt, (none-held ls).1 none))
 
-  sixteen_said : (entered_of (opened m n ls) (strikes place) ≡ Refused 16) ↔ ((ls ≡ [] → ⊥) × (length ls < place))
+  sixteen_said : (entered_of (opened m n ls) (strikes place) ≡ Err 16) ↔ ((ls ≡ [] → ⊥) × (length ls < place))
   sixteen_said =
       let said = refused_said l (strikes place) 16 2 tt tt in (
         (λ refused.
@@ -81,9 +81,9 @@ module _ (m n : ℕ) (earlier : List Line) (line : Line) (later : List Line) (pl
 pub right_striking : RightAlways → StruckAlways
 right_striking right s m n ls place reads =
     record {
-      seven = subst (λ (l : Ledger). (entered_of l (strikes place) ≡ Refused 7) ↔ (ls ≡ [])) (sym reads) (seven_said m n ls place);
+      seven = subst (λ (l : Ledger). (entered_of l (strikes place) ≡ Err 7) ↔ (ls ≡ [])) (sym reads) (seven_said m n ls place);
       sixteen =
-          subst (λ (l : Ledger). (entered_of l (strikes place) ≡ Refused 16) ↔ ((ls ≡ [] → ⊥) × (length ls < place))) (sym reads)
+          subst (λ (l : Ledger). (entered_of l (strikes place) ≡ Err 16) ↔ ((ls ≡ [] → ⊥) × (length ls < place))) (sym reads)
           (sixteen_said m n ls place);
       kept = λ k said.
           sym (entry_refused s (strikes place) (refusal_of (ledger_of s) (enters (strikes place))) refl (refused_some (ledger_of s) (strikes place) k said)).1;

@@ -4,6 +4,7 @@ use mathlib.Core.Logic.{◌↔◌}
 use mathlib.Core.List.{List}
 use Prim.Native.Nat.{ℕ, ◌<◌}
 use lib.Dec.{T}
+use Rattle.std.specs.Prelude.{Err}
 use Rattle.equations.specs.Equation.{Equation, solves_one}
 use Rattle.equations.specs.Line.{Line}
 use Rattle.equations.proofs.Truth.{false_of, of_false}
@@ -19,7 +20,6 @@ use Rattle.ledger.specs.Calls.{types, enters}
 use Rattle.ledger.specs.Questions.{refusal_of}
 use Rattle.ledger.specs.History.{gains}
 use Rattle.ledger.proofs.Questions.{accepted-yes}
-use Rattle.sheet.specs.declared.Entered.TheVariants.{Refused}
 use Rattle.sheet.specs.Record.{Sheet, ledger_of}
 use Rattle.sheet.specs.Calls.{entered_of}
 use Rattle.sheet.specs.Promises.{NoEquation, RightTyping}
@@ -29,7 +29,7 @@ module _ (m n : ℕ) (ls : List Line) (text : List ℕ) where
   abbrev l : Ledger
   l = opened m n ls
 
-  eleven_said : (entered_of l (types text) ≡ Refused 11) ↔ NoEquation text
+  eleven_said : (entered_of l (types text) ≡ Err 11) ↔ NoEquation text
   eleven_said =
       let said = refused_said l (types text) 11 1 tt tt in (
         (λ refused. (not_typed text).0 (false_of (is_typed text) (said.0 refused).1)),
@@ -50,7 +50,7 @@ pub right_typing : (s : Sheet) (m n : ℕ) (ls : List Line) (text : List ℕ) �
     → RightTyping s m n ls text
 right_typing s m n ls text reads pos =
     record {
-      eleven = subst (λ (l : Ledger). (entered_of l (types text) ≡ Refused 11) ↔ NoEquation text) (sym reads) (eleven_said m n ls text);
+      eleven = subst (λ (l : Ledger). (entered_of l (types text) ≡ Err 11) ↔ NoEquation text) (sym reads) (eleven_said m n ls text);
       accepted = λ k said.
           let none = holds_said (opened m n ls) (types text) k (ap (λ (l : Ledger). entered_of l (types text)) (sym reads) ∙ said) in
           let (e, typed, same, solved) = typed_added m n ls text pos none in (

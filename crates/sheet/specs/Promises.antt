@@ -5,7 +5,7 @@
 -- leave, those of the C calls too, for every sheet, all words and any buffer. `after` puts the sheet that a call left into the next call.
 -- So `after calls` is what the caller's memory holds after the calls, and what is promised here of those names at that sheet is what the
 -- next call does. `ledger` sees the calls alone. Definitions only.
-use Rattle.std.specs.Prelude.{◌≡◌, cond, ◌↔◌, ◌⊎◌, ℕ, suc, ◌*◌, ◌<◌, ◌≤◌, T, eqb, length, take, get_or, replicate}
+use Rattle.std.specs.Prelude.{◌≡◌, cond, ◌↔◌, ◌⊎◌, ℕ, suc, ◌*◌, ◌<◌, ◌≤◌, T, eqb, length, take, get_or, replicate, Result, Ok, Err}
 use mathlib.Core.List.{List, [], ◌∷◌, ◌++◌, flatten}
 use Rattle.std.proofs.Math.Option.{some}
 use Rattle.slices.specs.Over.{over}
@@ -22,6 +22,7 @@ use Rattle.equations.specs.Marks.{mark_number, HasSuperfluous, MarkTells}
 use Rattle.equations.specs.Reasons.{mark_beside}
 use Rattle.equations.specs.Line.{Line, holds_one, holds, line_start, line_steps, line_refutes}
 use Rattle.equations.specs.LineReasons.{LineSays}
+use Rattle.system.specs.declared.solving.Answer.{Answer}
 use Rattle.system.specs.Block.{answer_from}
 use Rattle.system.specs.Lines.{line_block}
 use Rattle.words.specs.Words.{word, words_in, tops_fit, words_of, head_kind, entry_kind, multiplier_kind, top_kind}
@@ -39,16 +40,10 @@ use Rattle.ledger.specs.Classes.{most_claims, claims_in}
 use Rattle.ledger.specs.Calls.{Call, Entry, opens, adds, types, strikes, answers, answers_from_tape, marks, reasons, classes, enters, queries}
 use Rattle.ledger.specs.Questions.{plain, refusal_of}
 use Rattle.ledger.specs.History.{enter, ledger_from, ledger}
-use Rattle.sheet.specs.declared.Entered.TheVariants.{Holds, Refused as Entered-as-Refused}
-use Rattle.sheet.specs.declared.answering.Answered.TheVariants.{Wrote, Refused as Answered-as-Refused}
-use Rattle.sheet.specs.declared.answering.Shown.{Shown}
-use Rattle.sheet.specs.declared.marking.Marked.{Marked}
-use Rattle.sheet.specs.declared.marking.Marked.TheVariants.{Gets, Refused as Marked-as-Refused}
-use Rattle.sheet.specs.declared.reasoning.Reasoned.TheVariants.{Gives, Refused as Reasoned-as-Refused}
-use Rattle.sheet.specs.declared.classing.Classed.TheVariants.{Claims, Refused as Classed-as-Refused}
 use Rattle.sheet.specs.Record.{Sheet, size, ledger_of}
-use Rattle.sheet.specs.Calls.{entered_of, sheet_after, answered_of, buffer_after, no_block, shown_of, marked_of, reasoned_of, shown_after, mark_byte, claims_of, classed_of, marks_after}
+use Rattle.sheet.specs.Calls.{entered_of, sheet_after, answered_of, buffer_after, shown_of, marked_of, reasoned_of, shown_after, mark_byte, claims_of, classed_of, marks_after}
 use Rattle.sheet.specs.History.{left, sheet_from, after}
+use Rattle.sheet.specs.Calls.{said}
 
 -- "refused calls anywhere in it and at least one opening accepted": by the questions, asked of the ledger at that place
 abbrev pub OpeningAccepted : List Call → Type 0
@@ -75,9 +70,9 @@ pub record RightBlock (m n : ℕ) (ls : List Line) (block : List ℕ) : Type 0 w
       × (block ≡ word head_kind (suc (length (line_steps m n ls))) ∷ words_of entry_kind (start ++ flatten (line_steps m n ls)))
 
 -- numbers whose words are the block
-abbrev pub Shows : List ℕ → Shown → Type 0
-Shows block shown =
-    (shown.refused ≡ 0) × (block_words (shown.block.head ∷ take shown.block.len shown.block.numbers) ≡ block)
+abbrev pub Shows : List ℕ → Result Answer ℕ → Type 0
+Shows block (Ok answer) = block_words (answer.head ∷ take answer.len answer.numbers) ≡ block
+Shows block (Err k) = ⊥
 
 -- "a well-formed claim": "if its shape is right and its entries are below m"
 abbrev pub WellFormed : ℕ → ℕ → List ℕ → Type 0
@@ -110,13 +105,13 @@ pub record RightSheet (s : Sheet) (m n : ℕ) (ls : List Line) : Type 0 where
   pub asked : RightRoom m n ls block room
   -- "An answer asked for then, into a long enough buffer" that held `old`: "Buffer long enough for this block? 8"
   pub answer : (old : List ℕ) → room ≤ length old
-      → (answered_of (ledger_of s) old ≡ Wrote (length block)) × (buffer_after (ledger_of s) old ≡ over block old)
-  pub short : (old : List ℕ) → length old < room → answered_of (ledger_of s) old ≡ Answered-as-Refused 8
+      → (answered_of (ledger_of s) old ≡ Ok (length block)) × (buffer_after (ledger_of s) old ≡ over block old)
+  pub short : (old : List ℕ) → length old < room → answered_of (ledger_of s) old ≡ Err 8
   -- the same from tape, with a word whose number is 0: its numbers; "on tape it always is" long enough
   pub answer_from_tape : (number : ℕ) → T (plain number) → Shows block (shown_of (ledger_of s) number)
   -- "And a well-formed claim marked then"
   pub mark : (ws : List ℕ) → WellFormed m n ws
-      → RightMark Gets m n ls (claim_from n (words_in ws)) (marked_of (ledger_of s) ws)
+      → RightMark Ok m n ls (claim_from n (words_in ws)) (marked_of (ledger_of s) ws)
 
 -- What demand 3 says after a list of calls.
 pub record Promised (calls : List Call) : Type 0 where
@@ -139,24 +134,24 @@ pub record Decided (calls : List Call) : Type 0 where
   -- "Nothing is turned away except by a question in document 01, with that question's number"
   pub entering : (e : Entry)
       → entered_of (ledger_of (after calls)) e
-      ≡ unless_refused Entered-as-Refused (refusal_of (ledger calls) (enters e)) (Holds (length (lines_in (enter (ledger calls) (enters e)))))
+      ≡ unless_refused Err (refusal_of (ledger calls) (enters e)) (Ok (length (lines_in (enter (ledger calls) (enters e)))))
   pub answering : (old : List ℕ)
       → answered_of (ledger_of (after calls)) old
-      ≡ unless_refused Answered-as-Refused (refusal_of (ledger calls) (queries (answers old))) (Wrote (length (answer_words (ledger calls))))
+      ≡ unless_refused Err (refusal_of (ledger calls) (queries (answers old))) (Ok (length (answer_words (ledger calls))))
   pub showing : (number : ℕ)
       → shown_of (ledger_of (after calls)) number
-      ≡ unless_refused (λ (k : ℕ). record { refused = k; block = no_block }) (refusal_of (ledger calls) (queries (answers_from_tape number)))
-      (record { refused = 0; block = answer_from (line_block (modulus_of (ledger calls)) (unknowns_of (ledger calls)) (lines_in (ledger calls))) })
+      ≡ unless_refused Err (refusal_of (ledger calls) (queries (answers_from_tape number)))
+      (Ok (answer_from (line_block (modulus_of (ledger calls)) (unknowns_of (ledger calls)) (lines_in (ledger calls)))))
   pub marking : (ws : List ℕ)
       → marked_of (ledger_of (after calls)) ws
-      ≡ unless_refused Marked-as-Refused (refusal_of (ledger calls) (queries (marks ws))) (Gets (claim_mark (ledger calls) ws))
+      ≡ unless_refused Err (refusal_of (ledger calls) (queries (marks ws))) (Ok (claim_mark (ledger calls) ws))
   pub reasoning : (ws old : List ℕ)
       → reasoned_of (ledger_of (after calls)) ws old
-      ≡ unless_refused Reasoned-as-Refused (refusal_of (ledger calls) (queries (reasons ws old)))
-      (Gives (claim_reason (ledger calls) ws) (length (reason_words (ledger calls) ws)))
+      ≡ unless_refused Err (refusal_of (ledger calls) (queries (reasons ws old)))
+      (said (claim_reason (ledger calls) ws) (length (reason_words (ledger calls) ws)))
   pub classing : (ws old : List ℕ)
       → classed_of (ledger_of (after calls)) ws old
-      ≡ unless_refused Classed-as-Refused (refusal_of (ledger calls) (queries (classes ws old))) (Claims (length (claims_of (ledger calls) ws)))
+      ≡ unless_refused Err (refusal_of (ledger calls) (queries (classes ws old))) (Ok (length (claims_of (ledger calls) ws)))
   -- "and then the sheet and all lent memory hold what they held": the sheet after queries too, since a caller has one then
   pub sheet_kept : (c : Call) → 0 < refusal_of (ledger calls) c → left (after calls) c ≡ after calls
   pub buffer_kept : (old : List ℕ) → 0 < refusal_of (ledger calls) (queries (answers old))
@@ -170,8 +165,8 @@ abbrev pub DecidedAlways : Type 0
 DecidedAlways = (calls : List Call) → Decided calls
 
 -- The block that an answer wrote, given to mark from the same buffer, is right where there is a solution: "Our own answers may be long".
-abbrev pub OwnMark : Marked → Type 0
-OwnMark marked = (marked ≡ Gets Pass) ⊎ (marked ≡ Gets Long)
+abbrev pub OwnMark : Result Mark ℕ → Type 0
+OwnMark marked = (marked ≡ Ok Pass) ⊎ (marked ≡ Ok Long)
 
 abbrev pub OwnBlockRight : Type 0
 OwnBlockRight =
@@ -202,12 +197,12 @@ ReadsOn = (s : Sheet) (calls : List Call) → ledger_of (sheet_from s calls) ≡
 -- What document 02 says of an opening in words, S-9, on any sheet; its words say m and n.
 pub record RightOpening (s : Sheet) (ws : List ℕ) (m n : ℕ) : Type 0 where
   -- "right before 1, a kind 13 word .. 17": exactly where one breaks the rule
-  pub seventeen : (entered_of (ledger_of s) (opens ws) ≡ Entered-as-Refused 17) ↔ (T (tops_fit (words_in ws)) → ⊥)
+  pub seventeen : (entered_of (ledger_of s) (opens ws) ≡ Err 17) ↔ (T (tops_fit (words_in ws)) → ⊥)
   -- "take m in 2..4,294,967,295, so 65,536 now opens"; "n 1..16"
-  pub allowed : (entered_of (ledger_of s) (opens ws) ≡ Holds 0)
+  pub allowed : (entered_of (ledger_of s) (opens ws) ≡ Ok 0)
       ↔ (T (is_opening (words_in ws)) × ((2 ≤ m) × (m ≤ largest_modulus)) × ((1 ≤ n) × (n ≤ most_unknowns)))
   -- "Accepted open: m, n, empty list, whatever was there before."
-  pub accepted : (k : ℕ) → entered_of (ledger_of s) (opens ws) ≡ Holds k → ledger_of (sheet_after s (opens ws)) ≡ opened m n []
+  pub accepted : (k : ℕ) → entered_of (ledger_of s) (opens ws) ≡ Ok k → ledger_of (sheet_after s (opens ws)) ≡ opened m n []
 
 -- Whatever the memory holds, and so after every list of calls.
 abbrev pub OpenedAlways : Type 0
@@ -221,16 +216,16 @@ LineModulus m q = (2 ≤ q) × Divides q m
 -- has the modulus q.
 pub record RightAdding (s : Sheet) (m n : ℕ) (ls : List Line) (ws : List ℕ) (q : ℕ) : Type 0 where
   -- "right before 1, a kind 13 word .. 17": exactly where one breaks the rule
-  pub seventeen : (entered_of (ledger_of s) (adds ws) ≡ Entered-as-Refused 17) ↔ (T (tops_fit (words_in ws)) → ⊥)
+  pub seventeen : (entered_of (ledger_of s) (adds ws) ≡ Err 17) ↔ (T (tops_fit (words_in ws)) → ⊥)
   -- "Any number of 28 bits is allowed", and now of 32: it is added exactly where its shape is right, q is one of a line and there is room
-  pub allowed : (entered_of (ledger_of s) (adds ws) ≡ Holds (suc (length ls)))
+  pub allowed : (entered_of (ledger_of s) (adds ws) ≡ Ok (suc (length ls)))
       ↔ (T (is_equation n (equation_words (words_in ws))) × LineModulus m q × (length ls < most_equations))
   -- "right after shape and before 5, q below 2 or not dividing m 15"
-  pub fifteen : (entered_of (ledger_of s) (adds ws) ≡ Entered-as-Refused 15)
+  pub fifteen : (entered_of (ledger_of s) (adds ws) ≡ Err 15)
       ↔ (T (is_equation n (equation_words (words_in ws))) × (LineModulus m q → ⊥))
   -- "and is brought to its residue", "Its numbers become residues mod q": the words, as an equation of whole numbers, hold mod q at
   -- exactly the vectors where the line added holds
-  pub accepted : (k : ℕ) → entered_of (ledger_of s) (adds ws) ≡ Holds k
+  pub accepted : (k : ℕ) → entered_of (ledger_of s) (adds ws) ≡ Ok k
       → (added : Line) × (added.modulus ≡ q) × (ledger_of (sheet_after s (adds ws)) ≡ opened m n (ls ++ (added ∷ [])))
       × ((v : List ℕ) → HoldsWhole q n (wholes_of (equation_words (words_in ws))) v ↔ T (holds_one added v))
 
@@ -247,14 +242,14 @@ PlaceBetween earlier later place = (place ≡ suc (length earlier)) ⊎ ((place 
 -- What document 02 says of a strike, S-7, on a sheet whose ledger has m, n and ls.
 pub record RightStriking (s : Sheet) (m n : ℕ) (ls : List Line) (place : ℕ) : Type 0 where
   -- "An equation there? 7.": where none is, whatever the place
-  pub seven : (entered_of (ledger_of s) (strikes place) ≡ Entered-as-Refused 7) ↔ (ls ≡ [])
+  pub seven : (entered_of (ledger_of s) (strikes place) ≡ Err 7) ↔ (ls ≡ [])
   -- "after 7, a place beyond the lines held 16"
-  pub sixteen : (entered_of (ledger_of s) (strikes place) ≡ Entered-as-Refused 16) ↔ ((ls ≡ [] → ⊥) × (length ls < place))
+  pub sixteen : (entered_of (ledger_of s) (strikes place) ≡ Err 16) ↔ ((ls ≡ [] → ⊥) × (length ls < place))
   -- "A refusal gives its number; sheet and lent memory keep their content."
-  pub kept : (k : ℕ) → entered_of (ledger_of s) (strikes place) ≡ Entered-as-Refused k → sheet_after s (strikes place) ≡ s
+  pub kept : (k : ℕ) → entered_of (ledger_of s) (strikes place) ≡ Err k → sheet_after s (strikes place) ≡ s
   -- the line at any other place goes: "Later lines close up in order, and the answer is the one for the lines left."
   pub struck : (earlier : List Line) (line : Line) (later : List Line) → ls ≡ earlier ++ (line ∷ later) → PlaceBetween earlier later place
-      → (entered_of (ledger_of s) (strikes place) ≡ Holds (length (earlier ++ later)))
+      → (entered_of (ledger_of s) (strikes place) ≡ Ok (length (earlier ++ later)))
       × (ledger_of (sheet_after s (strikes place)) ≡ opened m n (earlier ++ later))
       × RightSheet (sheet_after s (strikes place)) m n (earlier ++ later)
 
@@ -266,17 +261,17 @@ StruckAlways = (s : Sheet) (m n : ℕ) (ls : List Line) (place : ℕ) → ledger
 pub record RightReason (s : Sheet) (m n : ℕ) (ls : List Line) (ws : List ℕ) : Type 0 where
   -- "A passed claim gives no reason, and each failed one gives a reason"; "for a long claim, the number of its first superfluous step"
   pub reason : Reason
-  pub verdict : marked_of (ledger_of s) ws ≡ Gets (mark_beside reason)
+  pub verdict : marked_of (ledger_of s) ws ≡ Ok (mark_beside reason)
   -- "that is true as stated", with the numbers that are shown
   pub shown : List ℕ
   pub says : LineSays m n ls (claim_from n (words_in ws)) reason shown
   -- "It writes words of kinds 6 and 7 as the answer does", into a long enough buffer that held `old`; where it shows nothing, every buffer
   -- is long enough and "keeps its content"
   pub given : (old : List ℕ) → length shown * counts_for m ≤ length old
-      → (reasoned_of (ledger_of s) ws old ≡ Gives reason (length (words_of (shown_kind reason) shown)))
+      → (reasoned_of (ledger_of s) ws old ≡ said reason (length (words_of (shown_kind reason) shown)))
       × (shown_after (ledger_of s) ws old ≡ over (words_of (shown_kind reason) shown) old)
   -- "then 8 for a buffer too short for this reason's words", where "an entry that the reason tool shows, counts two words when m is above 2^28"
-  pub short : (old : List ℕ) → length old < length shown * counts_for m → reasoned_of (ledger_of s) ws old ≡ Reasoned-as-Refused 8
+  pub short : (old : List ℕ) → length old < length shown * counts_for m → reasoned_of (ledger_of s) ws old ≡ Err 8
 
 -- Whatever the memory holds, and so after every list of calls.
 abbrev pub ReasonAlways : Type 0
@@ -286,8 +281,8 @@ ReasonAlways =
 -- "The questions are those of marking": what marking turns away is turned away with the same number, on every sheet and with any buffer.
 abbrev pub SameRefusals : Type 0
 SameRefusals =
-    (s : Sheet) (ws old : List ℕ) (k : ℕ) → marked_of (ledger_of s) ws ≡ Marked-as-Refused k
-    → (reasoned_of (ledger_of s) ws old ≡ Reasoned-as-Refused k) × (shown_after (ledger_of s) ws old ≡ old)
+    (s : Sheet) (ws old : List ℕ) (k : ℕ) → marked_of (ledger_of s) ws ≡ Err k
+    → (reasoned_of (ledger_of s) ws old ≡ Err k) × (shown_after (ledger_of s) ws old ≡ old)
 
 -- What the byte of a claim in words says, on a ledger that has m, n and ls: "0 fail, 1 pass or the refusal number plus 100", and 2 for
 -- `long`.
@@ -311,9 +306,9 @@ pub record RightMarks (s : Sheet) (m n : ℕ) (ls : List Line) (claims : List (L
 -- What document 02 says of a class, S-4, on such a sheet.
 pub record RightClass (s : Sheet) (m n : ℕ) (ls : List Line) (ws old : List ℕ) : Type 0 where
   -- "up to 64 claims .. and a byte per claim": so many are marked exactly where there are no more, and bytes enough
-  pub allowed : (classed_of (ledger_of s) ws old ≡ Claims (length (claims_in n ws)))
+  pub allowed : (classed_of (ledger_of s) ws old ≡ Ok (length (claims_in n ws)))
       ↔ ((length (claims_in n ws) ≤ most_claims) × (length (claims_in n ws) ≤ length old))
-  pub accepted : classed_of (ledger_of s) ws old ≡ Claims (length (claims_in n ws))
+  pub accepted : classed_of (ledger_of s) ws old ≡ Ok (length (claims_in n ws))
       → RightMarks s m n ls (claims_in n ws) old (marks_after (ledger_of s) ws old)
 
 -- Whatever the memory holds, and so after every list of calls.
@@ -336,9 +331,9 @@ NoEquation text = ((e : Sides) → Typed e text → ⊥) ⊎ (largest_text < len
 -- What document 02 says of an equation typed as text, S-1, on a sheet whose ledger has m, n and ls.
 pub record RightTyping (s : Sheet) (m n : ℕ) (ls : List Line) (text : List ℕ) : Type 0 where
   -- "On an opened sheet 11 is given exactly for texts outside this grammar or over 256 bytes"
-  pub eleven : (entered_of (ledger_of s) (types text) ≡ Entered-as-Refused 11) ↔ NoEquation text
+  pub eleven : (entered_of (ledger_of s) (types text) ≡ Err 11) ↔ NoEquation text
   -- "and an accepted text holds mod m at exactly the vectors that solve the equation added."; "for typed text, q is m"
-  pub accepted : (k : ℕ) → entered_of (ledger_of s) (types text) ≡ Holds k
+  pub accepted : (k : ℕ) → entered_of (ledger_of s) (types text) ≡ Ok k
       → (e : Sides) × (added : Line) × Typed e text × (added.modulus ≡ m)
       × (ledger_of (sheet_after s (types text)) ≡ opened m n (ls ++ (added ∷ [])))
       × ((v : List ℕ) → HoldsMod m e v ↔ T (holds_one added v))

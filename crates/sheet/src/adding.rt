@@ -1,6 +1,7 @@
 // Adding an equation to a sheet: a line with a modulus of its own, or the sheet's.
 ghost use Rattle.std.specs.Prelude.{◌≡◌, ◌+◌, ◌<◌, T, length};
 ghost use Rattle.questions.specs.Questions.{allowed_own};
+ghost use Rattle.questions.specs.Refusals.{by_number};
 ghost use Rattle.equations.specs.Vectors.{Below};
 ghost use Rattle.equations.specs.Lines.{equation_at};
 ghost use Rattle.ledger.specs.Ledger.{is_opened, most_equations};
@@ -9,25 +10,24 @@ ghost use Rattle.ledger.specs.History.{gains};
 ghost use Rattle.sheet.specs.Record.{modulus_in, unknowns_in, held_in, ledger_of, record_by};
 ghost use Rattle.sheet.specs.Calls.{entered_of, sheet_after};
 
-use crate::{CELLS_AT, Entered, HELD_AT, MODULI_AT, MODULUS_AT, Sheet, UNKNOWNS_AT, wide};
+use crate::{CELLS_AT, HELD_AT, MODULI_AT, MODULUS_AT, Sheet, UNKNOWNS_AT, wide};
 use asking::adding::{EQUATION_ROOM, adding_of};
 use lines::scale_into;
+use questions::Refusal;
 
 impl Sheet {
-    pub fn add(sheet: &mut [u32; Sheet::SIZE], words: &[u32]) -> Entered
-        ensures value { result ≡ entered_of (ledger_of sheet.old) (adds words.now) }
+    // How many equations the sheet then holds. (It shares `with_line` with `add_text`; what is left differs in where the line and its
+    // modulus come from, but for a width and a sum.)
+    pub fn add(sheet: &mut [u32; Sheet::SIZE], words: &[u32]) -> Result<usize, Refusal>
+        ensures value { by_number result ≡ entered_of (ledger_of sheet.old) (adds words.now) }
         ensures sheet_after { sheet.new ≡ sheet_after sheet.old (adds words.now) }
     {
         let seen = Sheet::seen(sheet);
         let mut line = [0u32; EQUATION_ROOM];
-        let adding = adding_of(seen, words, &mut line);
-        let refusal = adding.refusal;
-        if refusal != 0 {
-            return Entered::Refused(refusal);
-        }
+        let modulus = adding_of(seen, words, &mut line)?;
         let width = seen.unknowns + 1;
-        with_line(sheet, adding.modulus, &line[..width]);
-        Entered::Holds(seen.held + 1)
+        with_line(sheet, modulus, &line[..width]);
+        Ok(seen.held + 1)
     }
 }
 

@@ -36,13 +36,7 @@ pub struct Sheet {
     pub numbers: [u32; Sheet::SIZE],
 }
 
-// What open, add and strike say: how many equations the sheet then holds, or the number of a refusal.
-#[derive(Clone, Copy)]
-pub enum Entered {
-    Holds(usize),
-    Refused(u32),
-}
-
+// There is no `usize::from` of a 32-bit number.
 pub(crate) fn wide(x: u32) -> usize
     ensures { result ≡ x }
 {

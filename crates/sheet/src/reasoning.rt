@@ -1,87 +1,80 @@
 // The reason why a student's claim about a sheet's equations fails, or is long.
-ghost use Rattle.std.specs.Prelude.{◌≡◌, ◌<◌, length};
+ghost use Rattle.std.specs.Prelude.{◌≡◌, ◌<◌, Err, length};
 ghost use Rattle.slices.specs.Over.{over};
+ghost use Rattle.questions.specs.Refusals.{by_number};
 ghost use Rattle.questions.specs.Reply.{result_of, memory_after};
 ghost use Rattle.equations.specs.Vectors.{Below};
 ghost use Rattle.ledger.specs.Marking.{shown_kind};
 ghost use Rattle.sheet.specs.Record.{ledger_of};
-ghost use Rattle.sheet.specs.declared.reasoning.Reasoned.TheVariants.{Refused};
 ghost use Rattle.sheet.specs.Calls.{reasoned_of, shown_after};
-ghost use Rattle.sheet.specs.View.{Views, explained_of, explained_numbers, shown_by};
+ghost use Rattle.sheet.specs.View.{ledger_in, explained_of, explained_numbers, shown_by};
 
+use crate::Sheet;
 use crate::viewing::View;
-use crate::{CELLS_AT, Sheet, wide};
-use asking::queries::{CLAIM_ROOM, mark_refusal};
+use asking::queries::CLAIM_ROOM;
 use blocks::counts_for;
 use equations::Reason;
-use system::explaining::explain;
+use questions::{Refusal, ask};
+use system::explaining::{Finding, explain};
 use system::limits::UNKNOWNS;
 use words::kinds::{ENTRY, MULTIPLIER};
 use words::writing::write;
 
-// The reason, and how many words are written beside it; or the number of a refusal.
+// The reason, and how many words are written beside it.
 #[derive(Clone, Copy)]
-pub enum Reasoned {
-    Gives(Reason, usize),
-    Refused(u32),
+pub struct Reasoned {
+    pub reason: Reason,
+    pub words: usize,
 }
 
 impl Sheet {
     // What is shown, a vector or multipliers, goes to the front of the buffer.
-    pub fn reason(sheet: &[u32; Sheet::SIZE], words: &[u32], buffer: &mut [u32]) -> Reasoned
-        ensures value { result ≡ reasoned_of (ledger_of sheet.now) words.now buffer.old }
+    pub fn reason(
+        sheet: &[u32; Sheet::SIZE],
+        words: &[u32],
+        buffer: &mut [u32],
+    ) -> Result<Reasoned, Refusal>
+        ensures value { by_number result ≡ reasoned_of (ledger_of sheet.now) words.now buffer.old }
         ensures buffer_after { buffer.new
             ≡ shown_after (ledger_of sheet.now) words.now buffer.old }
     {
-        let view = Sheet::view(sheet);
+        let seen = Sheet::seen(sheet);
         let mut shown = [0u32; UNKNOWNS];
-        let explained = explain_claim(sheet, view, words, &mut shown);
-        match explained {
-            Reasoned::Gives(reason, len) => show(view.seen.modulus, reason, &shown[..len], buffer),
-            Reasoned::Refused(number) => Reasoned::Refused(number),
-        }
+        let finding = View { sheet, seen }.explain_claim(words, &mut shown)?;
+        let len = finding.len;
+        show(seen.modulus, finding.reason, &shown[..len], buffer)
     }
 }
 
-// The numbers of the entries are explained, so many times n as the head says. What is shown stands at the front of 16 numbers.
-fn explain_claim(sheet: &[u32], view: View, words: &[u32], shown: &mut [u32]) -> Reasoned
-    requires { Views sheet.now view × (length shown.old ≡ 16) }
-    ensures value { result ≡ explained_of (ledger_of sheet.now) words.now }
-    ensures shown_after { shown.new ≡ over (explained_numbers (ledger_of sheet.now) words.now) shown.old }
-{
-    let seen = view.seen;
-    let mut numbers = [0u32; CLAIM_ROOM];
-    let refusal = mark_refusal(seen, words, &mut numbers);
-    if refusal != 0 {
-        return Reasoned::Refused(refusal);
+impl View<'_> {
+    // The entries are explained. What is shown stands at the front of 16 numbers.
+    fn explain_claim(&self, words: &[u32], shown: &mut [u32]) -> Result<Finding, Refusal>
+        requires { length shown.old ≡ 16 }
+        ensures value { by_number result ≡ explained_of (ledger_in self.now) words.now }
+        ensures shown_after { shown.new ≡ over (explained_numbers (ledger_in self.now) words.now) shown.old }
+    {
+        let mut numbers = [0u32; CLAIM_ROOM];
+        let entries = self.entries(words, &mut numbers)?;
+        let seen = self.seen;
+        let finding = explain(seen.modulus, seen.unknowns, self.lines(), entries, shown);
+        Ok(finding)
     }
-    let n = seen.unknowns;
-    let end = wide(numbers[0]) * n + 1;
-    let lines_end = view.end;
-    let finding = explain(
-        seen.modulus,
-        n,
-        &sheet[CELLS_AT..lines_end],
-        &numbers[1..end],
-        shown,
-    );
-    let reason = finding.reason;
-    Reasoned::Gives(reason, finding.len)
 }
 
 // The numbers, which are residues mod m, as words; 8 is asked last.
-fn show(m: u32, reason: Reason, numbers: &[u32], buffer: &mut [u32]) -> Reasoned
+fn show(m: u32, reason: Reason, numbers: &[u32], buffer: &mut [u32]) -> Result<Reasoned, Refusal>
     requires { Below m numbers.now }
-    ensures value { result ≡ result_of Refused (shown_by m reason numbers.now) buffer.old }
+    ensures value { by_number result ≡ result_of Err (shown_by m reason numbers.now) buffer.old }
     ensures buffer_after { buffer.new ≡ memory_after (shown_by m reason numbers.now) buffer.old }
 {
     let room = numbers.len() * counts_for(m);
-    if buffer.len() < room {
-        return Reasoned::Refused(8);
-    }
+    ask(room <= buffer.len(), Refusal::Buffer)?;
     let kind = kind_of(reason);
     let written = write(kind, numbers, buffer);
-    Reasoned::Gives(reason, written)
+    Ok(Reasoned {
+        reason,
+        words: written,
+    })
 }
 
 // The kind of the words that are written beside a reason.

@@ -1,29 +1,28 @@
 // Striking a line of a sheet.
 ghost use Rattle.std.specs.Prelude.{◌≡◌, ◌<◌, T};
+ghost use Rattle.questions.specs.Refusals.{by_number};
 ghost use Rattle.ledger.specs.Ledger.{is_opened};
 ghost use Rattle.ledger.specs.Calls.{strikes};
 ghost use Rattle.ledger.specs.History.{loses, struck_at};
 ghost use Rattle.sheet.specs.Record.{held_in, ledger_of, record_by};
 ghost use Rattle.sheet.specs.Calls.{entered_of, sheet_after};
 
-use crate::{CELLS_AT, Entered, HELD_AT, MODULI_AT, Sheet, UNKNOWNS_AT, wide};
+use crate::{CELLS_AT, HELD_AT, MODULI_AT, Sheet, UNKNOWNS_AT, wide};
 use asking::entries::strike_refusal;
+use questions::Refusal;
 use slices::copying::move_up;
 
 impl Sheet {
-    // A strike at a place, 1 for the first line and 0 for the last.
-    pub fn strike(sheet: &mut [u32; Sheet::SIZE], place: u32) -> Entered
-        ensures value { result ≡ entered_of (ledger_of sheet.old) (strikes place) }
+    // A strike at a place, 1 for the first line and 0 for the last: how many equations the sheet then holds.
+    pub fn strike(sheet: &mut [u32; Sheet::SIZE], place: u32) -> Result<usize, Refusal>
+        ensures value { by_number result ≡ entered_of (ledger_of sheet.old) (strikes place) }
         ensures sheet_after { sheet.new ≡ sheet_after sheet.old (strikes place) }
     {
         let seen = Sheet::seen(sheet);
-        let refusal = strike_refusal(seen, place);
-        if refusal != 0 {
-            return Entered::Refused(refusal);
-        }
+        strike_refusal(seen, place)?;
         let fewer = seen.held - 1;
         without_line(sheet, struck_at(seen.held, place));
-        Entered::Holds(fewer)
+        Ok(fewer)
     }
 }
 

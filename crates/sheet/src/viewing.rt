@@ -1,9 +1,8 @@
-// What calls see of a sheet. Nothing else looks through its cells.
+// What calls see of a sheet. Nothing else reads its cells to answer.
 ghost use Rattle.std.specs.Prelude.{◌≡◌, ◌≤◌};
 ghost use Rattle.ledger.specs.Ledger.{is_opened, most_equations, most_unknowns};
 ghost use Rattle.asking.specs.Sees.{Sees};
 ghost use Rattle.sheet.specs.Record.{ledger_of};
-ghost use Rattle.sheet.specs.View.{Views};
 
 use crate::{CELLS_AT, HELD_AT, MODULI_AT, MODULUS_AT, Sheet, UNKNOWNS_AT, wide};
 use asking::{Seen, are_unknowns};
@@ -11,12 +10,26 @@ use lines::lines_fit;
 use questions::is_modulus;
 use system::residues::all_below;
 
-// What the questions see, and the place behind the lines, which lie from the first cell on, each n coefficients and a right side, both sides
-// times m/q: as equations mod m.
+// A sheet, and what the questions see of it.
 #[derive(Clone, Copy)]
-pub(crate) struct View {
+pub(crate) struct View<'a> {
+    pub sheet: &'a [u32; Sheet::SIZE],
     pub seen: Seen,
-    pub end: usize,
+    ghost sees: { Sees (ledger_of sheet.now) seen },
+}
+
+impl View<'_> {
+    ghost use Rattle.sheet.specs.View.{lines_of};
+
+    // The lines, from the first cell on: each n coefficients and a right side, both sides times m/q, as equations mod m.
+    pub(crate) fn lines(&self) -> &[u32]
+        ensures { result.now ≡ lines_of self.now }
+    {
+        let seen = self.seen;
+        let end = CELLS_AT + seen.held * (seen.unknowns + 1);
+        let sheet = self.sheet;
+        &sheet[CELLS_AT..end]
+    }
 }
 
 impl Sheet {
@@ -37,18 +50,6 @@ impl Sheet {
             modulus: sheet[MODULUS_AT],
             unknowns: wide(sheet[UNKNOWNS_AT]),
             held: wide(sheet[HELD_AT]),
-        }
-    }
-
-    pub(crate) fn view(sheet: &[u32; Sheet::SIZE]) -> View
-        ensures views { Views sheet.now result }
-        ensures unknowns_le_most_unknowns { result.seen.unknowns ≤ most_unknowns }
-    {
-        let seen = Sheet::seen(sheet);
-        let end = CELLS_AT + seen.held * (seen.unknowns + 1);
-        View {
-            seen: seen,
-            end: end,
         }
     }
 

@@ -1,6 +1,4 @@
-// Numbers copied into a lent slice, and a lent slice filled: what the crates above do with memory that somebody lent.
+// Elements copied into a lent slice, or up within it: what the crates above do with memory that somebody lent.
 #![tactic(auto)]
 
 pub mod copying;
-pub mod filling;
-pub mod lengths;

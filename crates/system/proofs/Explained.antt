@@ -16,6 +16,7 @@ use native.Mathlib.Omega.{arith}
 use lib.Dec.{T, eqb}
 use lib.ListN.{length, drop, replicate}
 use borrow.Author.Tests.{eqb-true, eqb-false, eq-eqb, ne_eqb}
+use Rattle.std.specs.Prelude.{Some}
 use Rattle.slices.specs.Over.{over}
 use Rattle.equations.specs.declared.Reason.{Reason}
 use Rattle.equations.specs.declared.Reason.TheVariants.{Passes, Solvable, Unsolvable, Breaks, Changes, Misses}
@@ -44,14 +45,17 @@ use Rattle.elimination.proofs.Substitution.{below-extend}
 use Rattle.elimination.proofs.Turned.{below-turned}
 use Rattle.elimination.proofs.Answer.{answer-none}
 use Rattle.elimination.proofs.Missed.{apart-right, apart_above, missed_law}
+use Rattle.system.specs.declared.checking.Change.{Change}
 use Rattle.system.specs.declared.explaining.Finding.{Finding}
 use Rattle.system.specs.Reasons.{start_shown, shown_for, shown_with, finding_of}
 use Rattle.system.specs.Posed.{Posed}
 use Rattle.system.specs.Claims.{vectors_of}
 use Rattle.system.specs.Model.Reading.{rows_in, read_vector}
-use Rattle.system.specs.Model.Marking.{RightFor, Based, broken_reason, broken_shown}
+use Rattle.system.specs.Model.Marking.{changed, RightFor, Based, broken_reason, broken_shown}
 use Rattle.system.proofs.Chunks.{vectors_listed}
 use Rattle.system.proofs.Answer.{read_start}
+use Rattle.system.proofs.Placed.{placed_some}
+use Rattle.system.proofs.Changes.{change_is}
 
 -- ---- what is read off
 
@@ -163,13 +167,15 @@ module _ (m n : ℕ) (es : List Equation) where
       some : has_solution m n es ≡ true
       some = solution-solves m n es pos shaped c vec (of_true start)
 
-      pub reason_changes : (s l : ℕ) → s ≡ changed_step m es ss → l ≡ changed_line m es ss → (s ≡ 0 → ⊥)
-          → reason_of m n es (from c ss) ≡ Changes s l
+      pub reason_changes : (change : Change) → Some change ≡ changed (changed_step m es ss) (changed_line m es ss)
+          → reason_of m n es (from c ss) ≡ Changes change.step change.line
       unfolding reason_of
-      reason_changes s l s-is l-is fails =
-          let changed : every (keeps m es) ss ≡ false =
-          sym (fails-none (keeps m es) ss) ∙ ap (λ (z : ℕ). eqb z 0) (sym s-is) ∙ ne_eqb s 0 fails in
-          rw (some, start, changed, s-is, l-is)
+      reason_changes change found =
+          let is = change_is _ _ change found in
+          let step = placed_some _ change.step is.0 in
+          let lost : every (keeps m es) ss ≡ false =
+          sym (fails-none (keeps m es) ss) ∙ ap (λ (z : ℕ). eqb z 0) (sym step.0) ∙ ne_eqb change.step 0 step.1 in
+          rw (some, start, lost, step.0, is.1)
 
       -- and no step changes a left side; p is the place where a step is missing
       module _ (vs : AllVectors m n ss) (steps : every (keeps m es) ss ≡ true) (p : ℕ)

@@ -6,7 +6,6 @@
 --   front_length_lem   how long it is
 --   front_fits     it still lies in the array
 --   front-size     and is as long as before
---   front_read     the rows that are packed in p are read
 --   rows_alone     packed rows with no carried column
 use mathlib.Core.Path.{◌≡◌, sym, ap, ◌∙◌}
 use mathlib.Core.List.{List, ◌++◌}
@@ -14,7 +13,7 @@ use Prim.Native.Nat.{ℕ, ◌+◌, ◌≤◌}
 use native.Mathlib.Nat.{add-zero}
 use native.Mathlib.Omega.{arith}
 use lib.ListN.{length, take, drop, replicate}
-use lib.Seq.{take_at, length-take-le}
+use lib.Seq.{length-take-le}
 use Rattle.equations.proofs.Unit.{take_zeros}
 use Rattle.slices.proofs.Parts.{joined-fit, relent_length}
 use Rattle.tableau.specs.Packed.{rows, triangle}
@@ -46,10 +45,6 @@ module _ (w size : ℕ) (few : w ≤ 17) (is : size ≡ triangle w w) where
 
     pub front_fits : size ≤ length (p ++ drop size cleared)
     front_fits = joined-fit size cleared p whole
-
-    pub front_read : {A : Type 0} (f : List (List ℕ) → A) (x : A) (l : ℕ) (B : List (List ℕ)) → rows w l p ≡ B
-        → x ≡ f (rows w l (take size (p ++ drop size cleared))) → x ≡ f B
-    front_read f x l B g h = h ∙ ap f (ap (rows w l) (take_at p (drop size cleared) size whole) ∙ g)
 
 pub rows_alone : (w l : ℕ) (s : List ℕ) (B : List (List ℕ)) → rows w (l + 0) s ≡ B → rows w l s ≡ B
 rows_alone w l s B g = ap (λ (i : ℕ). rows w i s) (sym (add-zero l)) ∙ g

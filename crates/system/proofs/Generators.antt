@@ -14,6 +14,7 @@ use native.Mathlib.Nat.{div-le_of_le-mul, mul-le-mul, mul-mod_left}
 use native.Mathlib.Omega.{arith}
 use lib.ListN.{length, take, drop}
 use lib.Seq.{take_at}
+use Rattle.std.specs.Prelude.{None}
 use Rattle.slices.proofs.Over.{over-front}
 use Rattle.equations.specs.Vectors.{AllVectors, Below}
 use Rattle.equations.specs.Equation.{Equation}
@@ -29,6 +30,7 @@ use Rattle.elimination.proofs.Relations.{superfluous-place}
 use Rattle.system.specs.Posed.{Posed}
 use Rattle.system.specs.Claims.{vectors_within, vectors_of}
 use Rattle.system.specs.Model.Reading.{rows_in, Laid, read_steps}
+use Rattle.system.specs.Places.{placed}
 use Rattle.system.specs.Model.Marking.{RightFor, Based}
 use Rattle.system.proofs.Answer.{read_steps_lem}
 use Rattle.system.proofs.Chunks.{vectors_listed, vectors_flatten}
@@ -45,10 +47,6 @@ pub laid_vectors : (m n r : ℕ) (vs : List (List ℕ)) {old new : List ℕ} →
     → vectors_of n (take (r * n) new) ≡ vs
 laid_vectors m n r vs {old} pos all laid =
     ap (vectors_of n) (over-front (r * n) _ old laid.written laid.size) ∙ vectors_flatten m n vs pos all
-
--- how many numbers they are, in k unknowns
-pub generators_few : (k r : ℕ) → k ≤ 16 → r ≤ k → r * k ≤ 256
-generators_few k r few le = mul-le-mul {n₁ = r} {m₁ = k} {n₂ = 16} {m₂ = 16} (omega arith) few
 
 -- ---- the steps
 
@@ -70,17 +68,17 @@ no_vectors : (m n : ℕ) (vs : List (List ℕ)) → length vs ≡ 0 → 0 ≡ su
 unfolding superfluous_at
 no_vectors m n vs none = sym (ap (place_from _ 0) none)
 
-pub none_found : (m n : ℕ) (steps : List ℕ) → length steps / n ≡ 0 → 0 ≡ superfluous_at m n (vectors_of n steps)
-none_found m n steps none = no_vectors m n (vectors_of n steps) (vectors-count n steps ∙ none)
+pub none_found : (m n : ℕ) (steps : List ℕ) → length steps / n ≡ 0 → None ≡ placed (superfluous_at m n (vectors_of n steps))
+none_found m n steps none = ap placed (no_vectors m n (vectors_of n steps) (vectors-count n steps ∙ none))
 
 -- at most as many steps as free unknowns
 pub all_needed : (m n free : ℕ) (s steps : List ℕ) → 1 < m → Below m steps → length steps ≤ free * n → free ≡ free_for m (rows_in n s) n
-    → (es : List Equation) (start : List ℕ) → RightFor m n es s (from start (vectors_of n steps)) → 0 ≡ superfluous_at m n (vectors_of n steps)
+    → (es : List Equation) (start : List ℕ) → RightFor m n es s (from start (vectors_of n steps)) → None ≡ placed (superfluous_at m n (vectors_of n steps))
 all_needed m n free s steps modulus below few is es start right =
     let most : length steps / n ≤ free = div-le_of_le-mul n (omega (arith, few)) in
     let same : free ≡ free_for m (tableau m n 0 es) n = is ∙ ap (λ (B : List (List ℕ)). free_for m B n) right.rows in
-    sym (free_needed m n es start (vectors_of n steps) modulus right.shaped right.formed.0 (vectors_listed m n steps below) right.right
-    (omega (arith, most, vectors-count n steps, same)))
+    ap placed (sym (free_needed m n es start (vectors_of n steps) modulus right.shaped right.formed.0 (vectors_listed m n steps below) right.right
+    (omega (arith, most, vectors-count n steps, same))))
 
 -- ---- their system, which is p in the front of a longer list
 

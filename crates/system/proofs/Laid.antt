@@ -105,21 +105,21 @@ left-none m n zero c B {old} {out} z l =
 left-none m n (suc i) c B z l = absurd (omega arith)
 
 -- p is what a part of n numbers behind c vectors came back as
-pub left_less : (m n i c r : ℕ) (B : List (List ℕ)) {old out p : List ℕ} → 0 < i → r ≤ 1 → Left m n B old out c i
+pub left_less : (m n i c r next : ℕ) (B : List (List ℕ)) {old out p : List ℕ} → 0 < i → r ≤ 1 → next ≡ c + r → Left m n B old out c i
     → Laid n (and_then (read_step m n B (i - 1)) []) (take (c * n + n - c * n) (drop (c * n) out)) p r
-    → Left m n B old (take (c * n) out ++ (p ++ drop (c * n + n - c * n) (drop (c * n) out))) (c + r) (i - 1)
-left_less m n i c r B pos one l w =
+    → Left m n B old (take (c * n) out ++ (p ++ drop (c * n + n - c * n) (drop (c * n) out))) next (i - 1)
+left_less m n i c r next B pos one sum l w =
     let step = and_then (read_step m n B (i - 1)) [] in
     let fits : r * n ≤ c * n + n - c * n =
     omega (arith, mul-le-mul {n₁ = r} {m₁ = n} {n₂ = 1} {m₂ = n} one (omega arith), one-mul n) in
     record {
-      places = omega (arith, l.places);
+      places = omega (arith, l.places, sum);
       done = l.done ++ step;
       all =
           l.all
           ∙ ap (λ (vs : List (List ℕ)). l.done ++ vs) (steps_suc m n i B pos)
           ∙ sym (append_assoc l.done step (read_steps m n B (i - 1)));
-      laid = laid_more n c r (c * n + n - c * n) l.done step fits l.laid w;
+      laid = subst (Laid n (l.done ++ step) _ _) (sym sum) (laid_more n c r (c * n + n - c * n) l.done step fits l.laid w);
     }
 
 -- ---- there is room for all of them

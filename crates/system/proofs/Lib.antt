@@ -1,5 +1,5 @@
 -- Laws that the proofs of this crate's functions cite. The first two serve both routines, then come those of the
--- answer, from Broken on those of the marking, and Explained those of the reasons. Written, Block, Claims and Reasons are for the crates
+-- answer, from Placed on those of the marking, and Explained those of the reasons. Written, Block, Claims and Reasons are for the crates
 -- above too.
 pub mod Rows
 pub mod Chunks
@@ -12,6 +12,8 @@ pub mod Answer
 pub mod Written
 pub mod Block
 pub mod Promises
+pub mod Placed
+pub mod Seeking
 pub mod Broken
 pub mod Changes
 pub mod Pivots

@@ -1,7 +1,7 @@
 -- The outcome of a marking, from the outcomes of its parts.
 --   claim_front                  a claim that is not empty has a first vector
 --   claim_of_none, claim_of_some what it claims, by its length
---   start_right, steps_right     start and steps by the first equation and the first step that are named
+--   start_right, steps_right     start and steps where no equation and no step is named
 --   solves-none                  what a claim describes solves the equations: the empty one does,
 --   start_fails, start_solves    any other one by its start and its steps
 --   misses_none_lem, misses_some     and it misses no solution
@@ -17,7 +17,9 @@ use native.Mathlib.Omega.{arith}
 use lib.ListN.{length, take}
 use lib.Seq.{length-take-le}
 use lib.Dec.{eqb}
-use borrow.Author.Tests.{eqb-true, eqb-false, eq-eqb, ne_eqb}
+use borrow.Author.Tests.{eqb-true, eqb-false, eq-eqb}
+use Rattle.std.specs.Prelude.{Option, None}
+use Rattle.std.specs.Option.{is_some}
 use Rattle.slices.proofs.Parts.{lent, lent_is}
 use Rattle.equations.specs.declared.Mark.TheVariants.{Fail}
 use Rattle.equations.specs.Lists.{every}
@@ -34,10 +36,14 @@ use Rattle.elimination.specs.Tableau.{tableau}
 use Rattle.elimination.specs.Marking.{agree, claim_right}
 use Rattle.elimination.proofs.Marking.{marking, marking-none}
 use Rattle.equations.specs.Lines.{equations_of}
+use Rattle.system.specs.declared.checking.Change.{Change}
 use Rattle.system.specs.Posed.{Posed}
 use Rattle.system.specs.Claims.{Claimed, claim_of, vectors_of}
-use Rattle.system.specs.Model.Marking.{claim_solves, misses_none}
+use Rattle.system.specs.Places.{placed}
+use Rattle.system.specs.Model.Marking.{changed, claim_solves, misses_none}
 use Rattle.equations.proofs.Lines.{equations-shaped}
+use Rattle.system.proofs.Placed.{placed_none, some_told}
+use Rattle.system.proofs.Changes.{change_told}
 use Rattle.system.proofs.Chunks.{vectors-long}
 
 pub claim_front : (m n : ℕ) (claim : List ℕ) → Claimed m n claim → (length claim ≡ 0 → ⊥) → n ≤ length claim
@@ -67,39 +73,39 @@ unfolding claim_of
 claim_of_some n [] h = absurd (h refl)
 claim_of_some n (x ∷ s) h = ap (λ (r : List ℕ). from (take n (x ∷ s)) (vectors_of n r)) (lent_is n (x ∷ s))
 
--- i is the first equation that v breaks, and j the first step that changes one
+-- the first equation that v breaks, and the first step that changes one
 module _ (m : ℕ) (es : List Equation) where
-  start_is : (v : List ℕ) (i : ℕ) → i ≡ broken_at m es v → (a : Bool) → eqb i 0 ≡ a → solves m es v ≡ a
-  start_is v i is a t = sym (broken_none m es v) ∙ ap (λ (z : ℕ). eqb z 0) (sym is) ∙ t
+  pub start_right : (v : List ℕ) → None ≡ placed (broken_at m es v) → solves m es v ≡ true
+  start_right v none = sym (broken_none m es v) ∙ eq-eqb _ 0 (placed_none _ none)
 
-  pub start_right : (v : List ℕ) (i : ℕ) → i ≡ broken_at m es v → i ≡ 0 → solves m es v ≡ true
-  start_right v i is z = start_is v i is true (eq-eqb i 0 z)
-
-  steps_are : (ss : List (List ℕ)) (j : ℕ) → j ≡ changed_step m es ss → (a : Bool) → eqb j 0 ≡ a → every (keeps m es) ss ≡ a
-  steps_are ss j is a t = sym (fails-none (keeps m es) ss) ∙ ap (λ (z : ℕ). eqb z 0) (sym is) ∙ t
-
-  pub steps_right : (ss : List (List ℕ)) (j : ℕ) → j ≡ changed_step m es ss → j ≡ 0 → every (keeps m es) ss ≡ true
-  steps_right ss j is z = steps_are ss j is true (eq-eqb j 0 z)
+  pub steps_right : (ss : List (List ℕ)) → None ≡ placed (changed_step m es ss) → every (keeps m es) ss ≡ true
+  steps_right ss none = sym (fails-none (keeps m es) ss) ∙ eq-eqb _ 0 (placed_none _ none)
 
 module _ (m n : ℕ) (claim : List ℕ) where
   pub solves-none : (es : List Equation) → length claim ≡ 0 → true ≡ claim_solves m es (claim_of n claim)
   solves-none es none = sym (ap (claim_solves m es) (claim_of_none n claim none))
 
-  -- of the start and of the steps: j is asked where i is 0
-  module _ (es : List Equation) (some : length claim ≡ 0 → ⊥) (i : ℕ) (start : i ≡ broken_at m es (take n claim)) where
+  -- of the start by whether a broken equation is told, and of the steps by whether no changed one is
+  module _ (es : List Equation) (some : length claim ≡ 0 → ⊥) (start : Option ℕ) (is : start ≡ placed (broken_at m es (take n claim)))
+      (broken : Bool) (told : broken ≡ is_some start) where
     abbrev steps : List (List ℕ)
     steps = vectors_of n (lent n claim)
+
+    start_is : solves m es (take n claim) ≡ not broken
+    start_is = sym (broken_none m es (take n claim)) ∙ some_told _ start broken is told
 
     parts : (a b : Bool) → solves m es (take n claim) ≡ a → every (keeps m es) steps ≡ b
         → a && b ≡ claim_solves m es (claim_of n claim)
     parts a b e f = sym (ap₂ (λ (x y : Bool). x && y) e f) ∙ ap (claim_solves m es) (claim_of_some n claim some)
 
-    pub start_fails : (i ≡ 0 → ⊥) → false ≡ claim_solves m es (claim_of n claim)
-    start_fails f = parts false _ (start_is m es (take n claim) i start false (ne_eqb i 0 f)) refl
+    pub start_fails : broken ≡ true → false ≡ claim_solves m es (claim_of n claim)
+    start_fails t = parts false _ (start_is ∙ ap not t) refl
 
-    pub start_solves : i ≡ 0 → (j : ℕ) → j ≡ changed_step m es (vectors_of n (lent n claim))
-        → eqb j 0 ≡ claim_solves m es (claim_of n claim)
-    start_solves t j is = parts true (eqb j 0) (start_right m es (take n claim) i start t) (steps_are m es steps j is (eqb j 0) refl)
+    pub start_solves : broken ≡ false → (line : ℕ) (change : Option Change) → change ≡ changed (changed_step m es (vectors_of n (lent n claim))) line
+        → (none : Bool) → is_some change ≡ not none → none ≡ claim_solves m es (claim_of n claim)
+    start_solves f line change found none kept =
+        parts true none (start_is ∙ ap not f)
+        (sym (fails-none (keeps m es) steps) ∙ sym (change_told _ line change none found kept))
 
   module _ (B : List (List ℕ)) (r : Bool) where
     pub misses_none_lem : length claim ≡ 0 → r ≡ not (eqb (pivot n B) m) → r ≡ misses_none m n B (claim_of n claim)

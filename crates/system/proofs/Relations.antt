@@ -1,18 +1,17 @@
 -- The system of the relations of steps, as it is written place by place into zeros, and the place that is found with its generators.
 --   Related                                  the lines of the first p places are written
 --   related_none, related_more, related_all  before the first, one more, all of them
---   lines-few, old_few, related_room         how many numbers there are, and that one line more has room
---   related_part                             what is lent for it
---   place_stop, place_on, place_end          the place j is the one, it is not, none is left
+--   lines-few, related_room                  how many numbers there are, and that one line more has room
+--   place_on                                 the place j is not the one
 use mathlib.Core.Path.{◌≡◌, refl, sym, ap, ap₂, ◌∙◌}
-use mathlib.Core.Bool.{Bool, true, false, cond}
+use mathlib.Core.Bool.{Bool, false, cond}
 use mathlib.Core.List.{List, [], ◌∷◌, ◌++◌, append_assoc}
 use Prim.Native.Nat.{ℕ, zero, suc, ◌+◌, ◌-◌, ◌*◌, ◌<◌, ◌≤◌}
 use native.Mathlib.Nat.{mul-le-mul}
 use native.Mathlib.Numerals.{add-one}
 use native.Mathlib.Omega.{arith}
-use lib.ListN.{length, take, drop, get_or, replicate, length-append, length-map, length-drop, length-replicate, get_or-replicate, set}
-use lib.Seq.{length-take-le, take-suc, take-length, take_at, get_or_at, set-get_or}
+use lib.ListN.{length, take, drop, get_or, replicate, length-append, length-map, length-replicate, get_or-replicate, set}
+use lib.Seq.{take-suc, take-length, take_at, get_or_at, set-get_or}
 use Rattle.slices.specs.Over.{over}
 use Rattle.slices.proofs.Over.{over_past, over-whole, over-one, over-within}
 use Rattle.equations.specs.Vectors.{AllVectors, Below}
@@ -82,17 +81,9 @@ module _ (n k : ℕ) (steps : List ℕ) where
     old_long : length old ≡ n * (k + 1)
     old_long = ap length zeros ∙ length-replicate (n * (k + 1)) 0
 
-    pub old_few : n ≤ 16 → k ≤ 16 → length old ≤ 272
-    old_few n-few k-few = omega (arith, old_long, lines-few n k n-few k-few)
-
     -- a line more has room
     pub related_room : p < n → p * (k + 1) + (k + 1) ≤ length old
     related_room at = omega (arith, old_long, mul-le-mul {n₁ = p + 1} {m₁ = k + 1} {n₂ = n} {m₂ = k + 1} (omega arith) (omega arith))
-
-    -- a part of e numbers is lent for it
-    pub related_part : p < n → (e : ℕ) → e ≡ k + 1 → length lines ≡ length old → length (take e (drop (p * (k + 1)) lines)) ≡ k + 1
-    related_part at e e-is same =
-        length-take-le e (drop (p * (k + 1)) lines) (omega (arith, related_room at, length-drop (p * (k + 1)) lines)) ∙ e-is
 
     pub related_more : p < n → (e : ℕ) → e ≡ k + 1 → {part : List ℕ}
         → part ≡ over (entries_at p (vectors_of n steps)) (take e (drop (p * (k + 1)) lines))
@@ -162,11 +153,5 @@ module _ (p : ℕ → Bool) (k j : ℕ) (lt : j < k) where
   place-cons : place_from p j (k - j) ≡ cond (p j) (suc j) (place_from p (suc j) (k - suc j))
   place-cons = let e : k - j ≡ suc (k - suc j) = omega arith in ap (place_from p j) e
 
-  pub place_stop : p j ≡ true → j + 1 ≡ place_from p j (k - j)
-  place_stop h = sym (place-cons ∙ rw h (sym (add-one j)))
-
   pub place_on : p j ≡ false → place_from p (j + 1) (k - (j + 1)) ≡ place_from p j (k - j)
   place_on h = sym (place-cons ∙ rw (h, add-one j))
-
-pub place_end : (p : ℕ → Bool) (k j : ℕ) → k ≤ j → 0 ≡ place_from p j (k - j)
-place_end p k j h = let e : k - j ≡ 0 = omega arith in sym (ap (place_from p j) e)

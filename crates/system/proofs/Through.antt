@@ -2,22 +2,20 @@
 --   rows_through                  the rows, for equations through c
 --   through-next, through-none   those of the first vector, and of too few numbers for one
 --   through-row, through-length  how many numbers they are
---   through-room                 there is room for the next one
+--   through_lent, through_more   there is room for the next one, and it is written
 --   level-read, level-posed      the system of steps, as it lies in a longer list
 --   around_below, around_room    the generators, as they lie in a longer list, and the equations made of them
---   contradiction_written        0 = 1, as it is written
 --   for_none, for_some           what is written for a claim
-use mathlib.Core.Path.{◌≡◌, sym, ap, ap₂, ◌∙◌, subst}
+use mathlib.Core.Path.{◌≡◌, sym, ap, ◌∙◌, subst}
 use mathlib.Core.List.{List, [], ◌∷◌, ◌++◌, flatten, append-nil}
 use Prim.Native.Nat.{ℕ, ◌+◌, ◌*◌, ◌/◌, ◌<◌, ◌≤◌}
 use native.Mathlib.Nat.{mul-le-mul}
 use native.Mathlib.Omega.{arith}
-use lib.ListN.{length, take, drop, set, replicate, length-append, length-map, length-replicate}
-use lib.Seq.{length-take-le}
+use lib.ListN.{length, take, drop, replicate, length-append, length-map}
 use Rattle.slices.specs.Over.{over}
-use Rattle.slices.proofs.Over.{over-front, over-one}
-use Rattle.slices.proofs.Parts.{lent, lent_is}
-use Rattle.slices.proofs.Poured.{Poured, poured_room}
+use Rattle.slices.proofs.Over.{over-front}
+use Rattle.slices.proofs.Parts.{lent, put_back}
+use Rattle.slices.proofs.Poured.{Poured, poured_lent, poured_more}
 use Rattle.equations.specs.Vectors.{Below}
 use Rattle.equations.specs.Equation.{Equation}
 use Rattle.equations.specs.Answer.{steps_of}
@@ -32,7 +30,7 @@ use Rattle.system.specs.Claims.{vectors_of, claim_of}
 use Rattle.system.specs.Model.Reading.{Laid}
 use Rattle.system.specs.Wanted.{wanted_of}
 use Rattle.system.specs.Wanted.Body.{wanted-none, wanted-from}
-use Rattle.system.proofs.Chunks.{vectors-cons, vectors-none, vectors_listed}
+use Rattle.system.proofs.Chunks.{vector_cut, vectors-none, vectors_listed}
 use Rattle.system.proofs.Generators.{vectors-count, laid_vectors, relations-posed}
 use Rattle.system.proofs.Generators.{steps_few as count-few}
 use Rattle.system.proofs.Marks.{claim_of_none, claim_of_some}
@@ -51,24 +49,33 @@ module _ (m n : ℕ) (c : List ℕ) where
   pub through-none : (rest : List ℕ) → length rest < n → as_rows (lines_through m c (vectors_of n rest)) ≡ []
   through-none rest h = ap (λ (gs : List (List ℕ)). as_rows (lines_through m c gs)) (vectors-none n rest h)
 
-  module _ (rest : List ℕ) (some : 0 < n) (h : n ≤ length rest) where
+  module _ (rest g left : List ℕ) (some : 0 < n) (cut : rest ≡ g ++ left) (long : length g ≡ n) where
     pub through-next : as_rows (lines_through m c (vectors_of n rest))
-        ≡ as_row (through m c (take n rest)) ++ as_rows (lines_through m c (vectors_of n (lent n rest)))
-    through-next =
-        ap (λ (gs : List (List ℕ)). as_rows (lines_through m c gs)) (vectors-cons n rest some h)
-        ∙ ap (λ (s : List ℕ). as_row (through m c (take n rest)) ++ as_rows (lines_through m c (vectors_of n s))) (sym (lent_is n rest))
+        ≡ as_row (through m c g) ++ as_rows (lines_through m c (vectors_of n left))
+    through-next = ap (λ (gs : List (List ℕ)). as_rows (lines_through m c gs)) (vector_cut n g left rest some cut long)
 
-    pub through-row : length (as_row (through m c (take n rest))) ≡ n + 1
-    through-row = length-append (take n rest) _ ∙ omega (arith, length-take-le n rest h)
+    pub through-row : length (as_row (through m c g)) ≡ n + 1
+    through-row = length-append g _ ∙ omega (arith, long)
 
-    pub through-room : (all old : List ℕ) (at : ℕ) (out : List ℕ) → Poured (rows_through) all old rest at out
-        → length (as_rows (lines_through m c (vectors_of n all))) ≤ length old → at + (n + 1) ≤ length old
-    through-room all old at out p fits =
-        omega (
-          arith,
-          poured_room rows_through all old rest at out p fits (as_row (through m c (take n rest))) (lent n rest) through-next,
-          through-row,
-        )
+    -- g is the vector with the number i, and its row is written
+    module _ (all old out : List ℕ) (i count : ℕ) (is : i ≡ count) (p : Poured rows_through all old rest (count * (n + 1)) out)
+        (fits : length (as_rows (lines_through m c (vectors_of n all))) ≤ length old) where
+      poured : Poured rows_through all old rest (i * (n + 1)) out
+      poured = subst (λ (k : ℕ). Poured rows_through all old rest (k * (n + 1)) out) (sym is) p
+
+      pub through_lent : n + 1 ≤ length (lent (i * (n + 1)) out)
+      through_lent =
+          omega (
+            arith,
+            poured_lent rows_through all old rest (i * (n + 1)) out poured fits (as_row (through m c g)) left through-next,
+            through-row,
+          )
+
+      pub through_more : {part : List ℕ} (next : ℕ) → next ≡ count + 1 → part ≡ over (as_row (through m c g)) (lent (i * (n + 1)) out)
+          → Poured rows_through all old left (next * (n + 1)) (put_back (i * (n + 1)) out part)
+      through_more next more written =
+          poured_more rows_through all old rest (i * (n + 1)) out poured fits (as_row (through m c g)) left through-next (next * (n + 1))
+          (omega (arith, ap (λ (k : ℕ). k * (n + 1)) (more ∙ ap (λ (k : ℕ). k + 1) (sym is)), through-row)) written
 
 -- ---- the system of steps
 
@@ -127,15 +134,6 @@ module _ (m n : ℕ) (ss : List (List ℕ)) (r : ℕ) {old new : List ℕ} (some
         is ∙ ap (λ (gs : List (List ℕ)). over (as_rows (lines_through m start gs)) lines) listed_are
 
 -- ---- what is written
-
--- zeros in front, and a 1 behind them
-pub contradiction_written : (n : ℕ) (old : List ℕ) {front : List ℕ} → n + 1 ≤ length old → front ≡ replicate (length (take n old)) 0
-    → set (front ++ drop n old) n 1 ≡ over (as_row (constant n 1)) old
-contradiction_written n old {front} room is =
-    let zeros : front ≡ replicate n 0 = is ∙ ap (λ (k : ℕ). replicate k 0) (length-take-le n old (omega arith)) in
-    let long : length (replicate {A = ℕ} n 0) ≡ n = length-replicate n 0 in
-    ap₂ (λ (s : List ℕ) (k : ℕ). set (s ++ drop k old) k 1) zeros (sym long)
-    ∙ over-one (replicate n 0) old 1 (omega arith)
 
 module _ (m n : ℕ) (claim old : List ℕ) {new : List ℕ} where
   pub for_none : length claim ≡ 0 → new ≡ over (as_row (constant n 1)) old

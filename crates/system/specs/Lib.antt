@@ -1,6 +1,7 @@
 -- What an answer to a list of equations is, number for number, and how a claim lies in a list of numbers. Read in this
--- order: Posed, Block, Claims, Reasons, Ready, Promises, Lines, Wanted. Model is for the code's own proofs.
+-- order: Posed, Places, Block, Claims, Reasons, Ready, Promises, Lines, Wanted. Model is for the code's own proofs.
 pub mod Posed
+pub mod Places
 pub mod Block
 pub mod Claims
 pub mod Reasons

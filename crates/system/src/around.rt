@@ -46,19 +46,17 @@ fn annihilators_into(m: u32, n: usize, steps: &[u32], out: &mut [u32]) -> usize
     generators_into(m, n, &level[..size], out)
 }
 
-// An equation for each of the vectors: it goes through the start.
+// An equation for each of the vectors: it goes through the start. (The rows go by the index: of what is written through `chunks_exact_mut` a
+// proof knows the length alone.)
 fn through_into(m: u32, n: usize, start: &[u32], vectors: &[u32], lines: &mut [u32])
     requires { (0 < m) × (0 < n) × (n ≤ 16) × Vector m n start.now × Below m vectors.now
         × (length (as_rows (lines_through m start.now (vectors_of n vectors.now))) ≤ length lines.old) }
     ensures { lines.new
         ≡ over (as_rows (lines_through m start.now (vectors_of n vectors.now))) lines.old }
 {
-    let mut rest = &vectors[..];
-    let mut at: usize = 0;
-    while n <= rest.len() {
-        line_into(m, n, start, &rest[..n], &mut lines[at..]);
-        rest = &rest[n..];
-        at += n + 1;
+    for (i, g) in vectors.chunks_exact(n).enumerate() {
+        let at = i * (n + 1);
+        line_into(m, n, start, g, &mut lines[at..]);
     }
 }
 

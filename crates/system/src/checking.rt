@@ -1,78 +1,73 @@
 // Which lines do vectors not solve? Lines and steps have the numbers 1, 2, ..
 ghost use Rattle.std.specs.Prelude.{◌≡◌, ◌*◌, ◌≤◌, length};
 ghost use Rattle.equations.specs.Vectors.{Below};
-ghost use Rattle.equations.specs.Lines.{equations_of};
 ghost use Rattle.equations.specs.Reasons.{broken_at, changed_step, changed_line};
-ghost use Rattle.system.specs.Posed.{Posed};
 ghost use Rattle.system.specs.Claims.{Claimed, claim_of, vectors_of};
-ghost use Rattle.system.specs.Model.Marking.{claim_solves};
+ghost use Rattle.system.specs.Places.{placed};
+ghost use Rattle.system.specs.Model.Marking.{changed, claim_solves};
+ghost use Rattle.system.specs.Model.Listed.{equations_in};
 
+use crate::asked::System;
 use tableau::products::sum;
 
-// A step that changes a line's left side, and this line; 0 and 0 where no step does.
+// A step that changes a line's left side, and this line.
 #[derive(Clone, Copy)]
 pub(crate) struct Change {
     pub step: u32,
     pub line: u32,
 }
 
-// The first line that v does not solve; 0 where it solves them all.
-pub(crate) fn first_broken(m: u32, n: usize, lines: &[u32], v: &[u32]) -> u32
-    requires { Posed m n lines.now × (length v.now ≡ n) × Below m v.now }
-    ensures { result ≡ broken_at m (equations_of n lines.now) v.now }
-{
-    let mut rest = &lines[..];
-    let mut e: u32 = 0;
-    while n < rest.len() {
-        if sum(&rest[..n], v, m) != rest[n] {
-            return e + 1;
-        }
-        rest = &rest[n + 1..];
-        e += 1;
-    }
-    0
-}
-
-// The first step that changes a left side, and the first line whose left side it changes. Both loops are left at that pair.
-pub(crate) fn first_change(m: u32, n: usize, lines: &[u32], steps: &[u32]) -> Change
-    requires { Posed m n lines.now × Below m steps.now × (length steps.now ≤ 17 * n) }
-    ensures { (result.step ≡ changed_step m (equations_of n lines.now) (vectors_of n steps.now))
-        × (result.line ≡ changed_line m (equations_of n lines.now) (vectors_of n steps.now)) }
-{
-    let mut out = Change { step: 0, line: 0 };
-    let mut rest = &steps[..];
-    let mut i: u32 = 0;
-    'steps: while n <= rest.len() {
-        let mut left = &lines[..];
-        let mut e: u32 = 0;
-        while n < left.len() {
-            if sum(&left[..n], &rest[..n], m) != 0 {
-                out = Change {
-                    step: i + 1,
-                    line: e + 1,
-                };
-                break 'steps;
+impl System<'_> {
+    // The first line that v does not solve, if there is one.
+    pub(crate) fn first_broken(&self, v: &[u32]) -> Option<u32>
+        requires { (length v.now ≡ self.now.n) × Below self.now.m v.now }
+        ensures { result ≡ placed (broken_at self.now.m (equations_in self.now) v.now) }
+    {
+        let n = self.n;
+        for (index, line) in self.lines.chunks_exact(n + 1).enumerate() {
+            if sum(&line[..n], v, self.m) != line[n] {
+                return Some(index as u32 + 1);
             }
-            left = &left[n + 1..];
-            e += 1;
         }
-        rest = &rest[n..];
-        i += 1;
+        None
     }
-    out
-}
 
-// Whether all that a claim describes solves the lines: its start does, and no step changes a left side.
-pub(crate) fn claim_solves(m: u32, n: usize, lines: &[u32], claim: &[u32]) -> bool
-    requires { Posed m n lines.now × Claimed m n claim.now }
-    ensures { result ≡ claim_solves m (equations_of n lines.now) (claim_of n claim.now) }
-{
-    if claim.len() == 0 {
-        return true;
+    // The first step that changes a left side, if there is one, and the first line whose left side it changes. The paper asks for this form:
+    // loops over steps and equations, left by a label at the first pair that fails.
+    pub(crate) fn first_change(&self, steps: &[u32]) -> Option<Change>
+        requires { Below self.now.m steps.now × (length steps.now ≤ 17 * self.now.n) }
+        ensures { result
+            ≡ changed (changed_step self.now.m (equations_in self.now) (vectors_of self.now.n steps.now))
+            (changed_line self.now.m (equations_in self.now) (vectors_of self.now.n steps.now)) }
+    {
+        let n = self.n;
+        let mut found = None;
+        'steps: for (index, step) in steps.chunks_exact(n).enumerate() {
+            for (place, line) in self.lines.chunks_exact(n + 1).enumerate() {
+                if sum(&line[..n], step, self.m) != 0 {
+                    found = Some(Change {
+                        step: index as u32 + 1,
+                        line: place as u32 + 1,
+                    });
+                    break 'steps;
+                }
+            }
+        }
+        found
     }
-    if first_broken(m, n, lines, &claim[..n]) != 0 {
-        return false;
+
+    // Whether all that a claim describes solves the lines: its start does, and no step changes a left side. The empty claim is that of no
+    // solution, here and beside: `claim_of` has it so, by which `mark` and `explain` are promised, and no Option of its parts is spared a cut.
+    pub(crate) fn claim_solves(&self, claim: &[u32]) -> bool
+        requires { Claimed self.now.m self.now.n claim.now }
+        ensures { result ≡ claim_solves self.now.m (equations_in self.now) (claim_of self.now.n claim.now) }
+    {
+        if claim.len() == 0 {
+            return true;
+        }
+        if self.first_broken(&claim[..self.n]).is_some() {
+            return false;
+        }
+        self.first_change(&claim[self.n..]).is_none()
     }
-    let change = first_change(m, n, lines, &claim[n..]);
-    change.step == 0
 }

@@ -6,11 +6,11 @@ ghost use Rattle.system.specs.Posed.{Posed};
 ghost use Rattle.system.specs.Claims.{Claimed, claim_of};
 ghost use Rattle.system.specs.Reasons.{shown_with, finding_of};
 
-use crate::checking::{first_broken, first_change};
-use crate::finding::{explain_broken, explain_missing, explain_none};
+use crate::asked::System;
 use equations::Reason;
 
-// A reason, and how many numbers are shown beside it.
+// A reason, and how many numbers are shown beside it: no number stands for none here, 0 is the length of an empty list. They lie in the
+// memory that the caller lends, and `finding_of`, by which `explain` is promised, has these two fields.
 #[derive(Clone, Copy)]
 pub struct Finding {
     pub reason: Reason,
@@ -26,21 +26,20 @@ pub fn explain(m: u32, n: usize, lines: &[u32], claim: &[u32], shown: &mut [u32]
     ensures shown_after { shown.new ≡ over (shown_with m n (equations_of n lines.now) (claim_of n claim.now))
         shown.old }
 {
+    let system = System { m, n, lines };
     if claim.len() == 0 {
-        return explain_none(m, n, lines, shown);
+        return system.explain_none(shown);
     }
     let start = &claim[..n];
     let steps = &claim[n..];
-    let broken = first_broken(m, n, lines, start);
-    if broken != 0 {
-        return explain_broken(m, n, lines, broken, shown);
+    if let Some(broken) = system.first_broken(start) {
+        return system.explain_broken(broken, shown);
     }
-    let change = first_change(m, n, lines, steps);
-    if change.step != 0 {
+    if let Some(change) = system.first_change(steps) {
         return Finding {
             reason: Reason::Changes(change.step, change.line),
             len: 0,
         };
     }
-    explain_missing(m, n, lines, start, steps, shown)
+    system.explain_missing(start, steps, shown)
 }

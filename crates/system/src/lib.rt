@@ -3,6 +3,8 @@
 #![tactic(auto)]
 
 mod around;
+mod asked;
+mod basis;
 mod checking;
 pub mod explaining;
 mod finding;

@@ -1,16 +1,15 @@
 // The mark of a claim.
-ghost use Rattle.std.specs.Prelude.{◌≡◌, true};
+ghost use Rattle.std.specs.Prelude.{◌≡◌, true, ℕ};
 ghost use Rattle.equations.specs.Marks.{mark_with, mark_of};
 ghost use Rattle.equations.specs.Lines.{equations_of};
 ghost use Rattle.system.specs.Posed.{Posed};
 ghost use Rattle.system.specs.Claims.{Claimed, claim_of};
 ghost use Rattle.system.specs.Ready.{Ready};
+ghost use Rattle.system.specs.Places.{placed};
 
-use crate::checking::claim_solves;
-use crate::keeping::prepare;
+use crate::asked::System;
+use crate::basis::Basis;
 use crate::reading::packed_size;
-use crate::relating::long_at;
-use crate::spanning::misses_none;
 use equations::Mark;
 
 // A claim is the entries of a starting vector and of its steps; the empty one claims no solution. What it describes must solve the
@@ -21,25 +20,30 @@ pub fn mark(m: u32, n: usize, lines: &[u32], rows: &mut [u32], claim: &[u32]) ->
     ensures value { result ≡ mark_of m n (equations_of n lines.now) (claim_of n claim.now) }
     ensures ready { Ready m n lines.now rows.new }
 {
-    if !claim_solves(m, n, lines, claim) {
+    let system = System { m, n, lines };
+    if !system.claim_solves(claim) {
         return Mark::Fail;
     }
-    prepare(m, n, lines, rows);
+    system.prepare(rows);
     let size = packed_size(n + 1, n + 1);
-    let basis = &rows[..size];
-    if !misses_none(m, n, basis, claim) {
+    let basis = Basis {
+        m,
+        n,
+        numbers: &rows[..size],
+    };
+    if !basis.misses_none(claim) {
         return Mark::Fail;
     }
-    let step = long_at(m, n, basis, claim);
+    let step = basis.long_at(claim);
     right_mark(step)
 }
 
 // The mark of a claim that describes just the solutions, by its first superfluous step.
-fn right_mark(step: u32) -> Mark
-    ensures { result ≡ mark_with true step }
+fn right_mark(step: Option<u32>) -> Mark
+    ensures { (number : ℕ) → step ≡ placed number → result ≡ mark_with true number }
 {
-    if step == 0 {
-        return Mark::Pass;
+    match step {
+        None => Mark::Pass,
+        Some(_) => Mark::Long,
     }
-    Mark::Long
 }

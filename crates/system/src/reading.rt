@@ -1,12 +1,14 @@
 // What is read off a basis of equations in n unknowns, whose rows lie packed with no carried column.
-ghost use Rattle.std.specs.Prelude.{◌≡◌, [], ℕ, ◌+◌, ◌-◌, ◌*◌, ◌<◌, ◌≤◌, length};
+ghost use Rattle.std.specs.Prelude.{◌≡◌, cond, [], ℕ, ◌+◌, ◌-◌, ◌*◌, ◌<◌, ◌≤◌, length};
 ghost use Rattle.equations.specs.Answer.{and_then};
 ghost use Rattle.equations.specs.Vectors.{Below};
 ghost use Rattle.elimination.specs.Basis.{pivot};
 ghost use Rattle.elimination.specs.Missed.{shifted_at};
 ghost use Rattle.tableau.specs.Packed.{rows, triangle};
-ghost use Rattle.system.specs.Model.Reading.{rows_in, Readable, Laid, read_vector, read_step, read_steps, read_vectors};
+ghost use Rattle.system.specs.Model.Reading.{Laid};
+ghost use Rattle.system.specs.Model.Listed.{rows_of, vector_in, step_in, steps_in, vectors_in};
 
+use crate::basis::Basis;
 use crate::limits::LINE;
 use tableau::filling::turn;
 use tableau::line::add_row;
@@ -29,84 +31,89 @@ pub(crate) fn pivot_at(basis: &[u32], i: usize, l: usize) -> u32
     basis[at]
 }
 
-// The vector with e in column i and zeros behind it; the columns in front by back substitution, which leaves the zeros out.
-fn vector_into(basis: &[u32], out: &mut [u32], m: u32, n: usize, i: usize, e: u32)
-    requires { Readable m n basis.now × (length out.old ≡ n) × (i ≤ n) × (e < m) }
-    ensures { out.new ≡ read_vector m n (rows_in n basis.now) i e }
-{
-    let mut x = [0u32; LINE];
-    x[i] = e;
-    let used = i + 1;
-    let size = packed_size(i, n + 1);
-    extend(basis, &mut x[..used], m, i, n - i, size);
-    let w = n + 1;
-    turn(&x[..w], out);
-}
-
-// The starting vector: the constant is 1.
-pub(crate) fn start_into(basis: &[u32], out: &mut [u32], m: u32, n: usize)
-    requires { Readable m n basis.now × (length out.old ≡ n) }
-    ensures { out.new ≡ read_vector m n (rows_in n basis.now) n 1 }
-{
-    vector_into(basis, out, m, n, n, 1);
-}
-
-// The step of column i, if it has one; the number of steps written.
-fn step_into(basis: &[u32], out: &mut [u32], m: u32, n: usize, i: usize) -> usize
-    requires { Readable m n basis.now × (length out.old ≡ n) × (i < n) }
-    ensures { (result ≤ 1) × Laid n (and_then (read_step m n (rows_in n basis.now) i) [])
-        out.old out.new result }
-{
-    let d = pivot_at(basis, i, n + 1);
-    if d == 1 {
-        return 0;
+impl Basis<'_> {
+    // The pivot of row i; the last row is the constant's.
+    pub(crate) fn pivot(&self, i: usize) -> u32
+        requires { i ≤ self.now.n }
+        ensures { (0 < result) × (result ≡ pivot i (rows_of self.now)) }
+    {
+        pivot_at(self.numbers, i, self.n + 1)
     }
-    vector_into(basis, out, m, n, i, m / d);
-    1
-}
 
-// All steps, one behind the other by rising place, which is falling column; their number.
-pub(crate) fn steps_into(basis: &[u32], out: &mut [u32], m: u32, n: usize) -> usize
-    requires { Readable m n basis.now × (n * n ≤ length out.old) }
-    ensures { (result ≤ n) × Laid n (read_steps m n (rows_in n basis.now) n) out.old out.new result }
-{
-    let mut count: usize = 0;
-    let mut i = n;
-    while i > 0 {
-        i -= 1;
-        let at = count * n;
-        let end = at + n;
-        let written = step_into(basis, &mut out[at..end], m, n, i);
-        count += written;
+    // The vector with e in column i and zeros behind it; the columns in front by back substitution, which leaves the zeros out.
+    fn vector_into(&self, out: &mut [u32], i: usize, e: u32)
+        requires { (length out.old ≡ self.now.n) × (i ≤ self.now.n) × (e < self.now.m) }
+        ensures { out.new ≡ vector_in self.now i e }
+    {
+        let mut x = [0u32; LINE];
+        x[i] = e;
+        let used = i + 1;
+        let n = self.n;
+        let size = packed_size(i, n + 1);
+        extend(self.numbers, &mut x[..used], self.m, i, n - i, size);
+        let w = n + 1;
+        turn(&x[..w], out);
     }
-    count
-}
 
-// The starting vector, and the steps in the part behind it; the number of vectors.
-pub(crate) fn vectors_into(basis: &[u32], out: &mut [u32], m: u32, n: usize) -> usize
-    requires { Readable m n basis.now × (n + n * n ≤ length out.old) }
-    ensures { (result ≤ n + 1) × Laid n (read_vectors m n (rows_in n basis.now)) out.old out.new result }
-{
-    start_into(basis, &mut out[..n], m, n);
-    let steps = steps_into(basis, &mut out[n..], m, n);
-    steps + 1
-}
+    // The starting vector: the constant is 1.
+    pub(crate) fn start_into(&self, out: &mut [u32])
+        requires { length out.old ≡ self.now.n }
+        ensures { out.new ≡ vector_in self.now self.now.n 1 }
+    {
+        self.vector_into(out, self.n, 1);
+    }
 
-// The start plus the step at this place, which is counted from 1 and has one.
-pub(crate) fn missed_into(
-    basis: &[u32],
-    start: &[u32],
-    out: &mut [u32],
-    m: u32,
-    n: usize,
-    place: usize,
-)
-    requires readable { Readable m n basis.now × (length start.now ≡ n) × Below m start.now × (length out.old ≡ n) }
-    requires place_nonzero { (0 < place) × (place ≤ n) × (1 < pivot (n - place) (rows_in n basis.now)) }
-    ensures { out.new ≡ shifted_at m n (rows_in n basis.now) start.now place }
-{
-    let i = n - place;
-    let pivot = pivot_at(basis, i, n + 1);
-    vector_into(basis, out, m, n, i, m / pivot);
-    add_row(start, out, m);
+    // The step of column i, if it has one; whether it has.
+    fn step_into(&self, out: &mut [u32], i: usize) -> bool
+        requires { (length out.old ≡ self.now.n) × (i < self.now.n) }
+        ensures { Laid self.now.n (and_then (step_in self.now i) []) out.old out.new (cond result 1 0) }
+    {
+        let d = self.pivot(i);
+        if d == 1 {
+            return false;
+        }
+        self.vector_into(out, i, self.m / d);
+        true
+    }
+
+    // All steps, one behind the other by rising place, which is falling column; their number. It is counted here, and not by a chain, since
+    // it says where the next step is written.
+    pub(crate) fn steps_into(&self, out: &mut [u32]) -> usize
+        requires { self.now.n * self.now.n ≤ length out.old }
+        ensures { (result ≤ self.now.n) × Laid self.now.n (steps_in self.now) out.old out.new result }
+    {
+        let n = self.n;
+        let mut count = 0;
+        for i in (0..n).rev() {
+            let at = count * n;
+            let end = at + n;
+            if self.step_into(&mut out[at..end], i) {
+                count += 1;
+            }
+        }
+        count
+    }
+
+    // The starting vector, and the steps in the part behind it; the number of vectors.
+    pub(crate) fn vectors_into(&self, out: &mut [u32]) -> usize
+        requires { self.now.n + self.now.n * self.now.n ≤ length out.old }
+        ensures { (0 < result) × (result ≤ self.now.n + 1) × Laid self.now.n (vectors_in self.now) out.old out.new result }
+    {
+        let n = self.n;
+        self.start_into(&mut out[..n]);
+        let steps = self.steps_into(&mut out[n..]);
+        steps + 1
+    }
+
+    // The start plus the step at this place, which is counted from 1 and has one.
+    pub(crate) fn missed_into(&self, start: &[u32], out: &mut [u32], place: usize)
+        requires start_below { (length start.now ≡ self.now.n) × Below self.now.m start.now × (length out.old ≡ self.now.n) }
+        requires place_nonzero { (0 < place) × (place ≤ self.now.n) × (1 < pivot (self.now.n - place) (rows_of self.now)) }
+        ensures { out.new ≡ shifted_at self.now.m self.now.n (rows_of self.now) start.now place }
+    {
+        let i = self.n - place;
+        let pivot = self.pivot(i);
+        self.vector_into(out, i, self.m / pivot);
+        add_row(start, out, self.m);
+    }
 }

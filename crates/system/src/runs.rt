@@ -1,72 +1,79 @@
 // The two runs of the elimination: without carried columns for the vectors of the answer, and with one for each equation for
 // the multipliers. A basis is scratch: zeros at first, and just as many as its rows need.
-ghost use Rattle.std.specs.Prelude.{◌≡◌, ◌+◌, ◌*◌, ◌/◌, ◌≤◌, length, replicate};
+ghost use Rattle.std.specs.Prelude.{◌≡◌, ◌+◌, ◌*◌, ◌≤◌, length};
 ghost use Rattle.slices.specs.Over.{over};
 ghost use Rattle.elimination.specs.Multipliers.{multipliers_of};
-ghost use Rattle.equations.specs.Lines.{equations_of};
 ghost use Rattle.tableau.specs.Packed.{triangle};
-ghost use Rattle.system.specs.Posed.{Posed};
-ghost use Rattle.system.specs.Model.Reading.{Laid, answer_vectors};
+ghost use Rattle.system.specs.Model.Reading.{Solved};
+ghost use Rattle.system.specs.Model.Listed.{equations_in};
 
+use crate::asked::System;
+use crate::basis::Basis;
 use crate::limits::BASIS;
-use crate::reading::{packed_size, pivot_at, vectors_into};
+use crate::reading::packed_size;
 use slices::copying::copy;
 use tableau::building::build;
 
-// The first run; the number of vectors. For few unknowns a small array is cleared.
-pub(crate) fn solution(m: u32, n: usize, lines: &[u32], numbers: &mut [u32]) -> usize
-    requires { Posed m n lines.now × (n + n * n ≤ length numbers.old) }
-    ensures { (result ≤ n + 1) × Laid n (answer_vectors m n (equations_of n lines.now))
-        numbers.old numbers.new result }
-{
-    let size = packed_size(n + 1, n + 1);
-    if n <= 4 {
-        let mut small = [0u32; 15];
-        return solution_into(&mut small[..size], numbers, m, n, lines);
+impl System<'_> {
+    // The first run; the number of vectors, if there is a solution. For few unknowns a small array is cleared.
+    pub(crate) fn solution(&self, numbers: &mut [u32]) -> Option<usize>
+        requires { self.now.n + self.now.n * self.now.n ≤ length numbers.old }
+        ensures { Solved self.now.m self.now.n (equations_in self.now) numbers.old numbers.new result }
+    {
+        if self.n <= 4 {
+            return self.solution_into::<15>(numbers);
+        }
+        self.solution_into::<BASIS>(numbers)
     }
-    let mut basis = [0u32; BASIS];
-    solution_into(&mut basis[..size], numbers, m, n, lines)
-}
 
-// A second run, with a carried column for each equation; the number of equations.
-pub(crate) fn refutation(m: u32, n: usize, lines: &[u32], numbers: &mut [u32]) -> usize
-    requires { Posed m n lines.now × (16 ≤ length numbers.old) }
-    ensures value { result ≡ length (multipliers_of m n (equations_of n lines.now)) }
-    ensures numbers_after { numbers.new ≡ over (multipliers_of m n (equations_of n lines.now)) numbers.old }
-{
-    let k = lines.len() / (n + 1);
-    let size = packed_size(n + 1, n + 1 + k);
-    if n <= 4 {
-        let mut small = [0u32; 95];
-        multipliers_into(&mut small[..size], numbers, m, n, k, lines);
-        return k;
+    // A second run, with a carried column for each equation; the number of equations.
+    pub(crate) fn refutation(&self, numbers: &mut [u32]) -> usize
+        requires { 16 ≤ length numbers.old }
+        ensures value { result ≡ length (multipliers_of self.now.m self.now.n (equations_in self.now)) }
+        ensures numbers_after { numbers.new ≡ over (multipliers_of self.now.m self.now.n (equations_in self.now)) numbers.old }
+    {
+        if self.n <= 4 {
+            return self.multipliers_into::<95>(numbers);
+        }
+        self.multipliers_into::<425>(numbers)
     }
-    let mut basis = [0u32; 425];
-    multipliers_into(&mut basis[..size], numbers, m, n, k, lines);
-    k
-}
 
-// Starting vector and steps into out; their number, which is 0 where there is no solution.
-fn solution_into(basis: &mut [u32], out: &mut [u32], m: u32, n: usize, lines: &[u32]) -> usize
-    requires { Posed m n lines.now × (basis.old ≡ replicate (triangle (n + 1) (n + 1)) 0) × (n + n * n ≤ length out.old) }
-    ensures { (result ≤ n + 1) × Laid n (answer_vectors m n (equations_of n lines.now))
-        out.old out.new result }
-{
-    build(basis, lines, m, n, 0);
-    if pivot_at(basis, n, n + 1) != m {
-        return 0;
+    // Starting vector and steps into out; their number, if there is a solution. The basis has at most SIZE numbers.
+    fn solution_into<const SIZE: usize>(&self, out: &mut [u32]) -> Option<usize>
+        requires { (triangle (self.now.n + 1) (self.now.n + 1) ≤ SIZE) × (SIZE ≤ 425) × (self.now.n + self.now.n * self.now.n ≤ length out.old) }
+        ensures { Solved self.now.m self.now.n (equations_in self.now) out.old out.new result }
+    {
+        let m = self.m;
+        let n = self.n;
+        let mut numbers = [0u32; SIZE];
+        let size = packed_size(n + 1, n + 1);
+        let rows = &mut numbers[..size];
+        build(rows, self.lines, m, n, 0);
+        let basis = Basis {
+            m,
+            n,
+            numbers: rows,
+        };
+        if basis.pivot(n) != m {
+            return None;
+        }
+        Some(basis.vectors_into(out))
     }
-    vectors_into(basis, out, m, n)
-}
 
-// The multipliers are the last numbers of the basis: the carried columns of the constant's row.
-fn multipliers_into(basis: &mut [u32], out: &mut [u32], m: u32, n: usize, k: usize, lines: &[u32])
-    requires posed { Posed m n lines.now × (k ≡ length lines.now / (n + 1)) }
-    requires basis_value { (basis.old ≡ replicate (triangle (n + 1) (n + 1 + k)) 0) × (16 ≤ length out.old) }
-    ensures k_value { k ≡ length (multipliers_of m n (equations_of n lines.now)) }
-    ensures out_after { out.new ≡ over (multipliers_of m n (equations_of n lines.now)) out.old }
-{
-    build(basis, lines, m, n, k);
-    let at = basis.len() - k;
-    copy(&basis[at..], out);
+    // The multipliers are the last numbers of the basis: the carried columns of the constant's row.
+    fn multipliers_into<const SIZE: usize>(&self, out: &mut [u32]) -> usize
+        requires { (triangle (self.now.n + 1) (self.now.n + 17) ≤ SIZE) × (SIZE ≤ 425) × (16 ≤ length out.old) }
+        ensures value { result ≡ length (multipliers_of self.now.m self.now.n (equations_in self.now)) }
+        ensures out_after { out.new ≡ over (multipliers_of self.now.m self.now.n (equations_in self.now)) out.old }
+    {
+        let n = self.n;
+        let k = self.lines.len() / (n + 1);
+        let mut numbers = [0u32; SIZE];
+        let size = packed_size(n + 1, n + 1 + k);
+        let basis = &mut numbers[..size];
+        build(basis, self.lines, self.m, n, k);
+        let at = basis.len() - k;
+        copy(&basis[at..], out);
+        k
+    }
 }

@@ -5,10 +5,11 @@ ghost use Rattle.equations.specs.Lines.{equations_of};
 ghost use Rattle.system.specs.Block.{behind_head, written_of, answer_of};
 ghost use Rattle.system.specs.Posed.{Posed};
 
+use crate::asked::System;
 use crate::limits::ENTRIES;
-use crate::runs::{refutation, solution};
 
-// An answer block: its head, and behind it the first len of the numbers. The others are zeros.
+// An answer block: its head, and behind it the first len of the numbers. The others are zeros. There is no heap: an array, and how much of
+// it counts.
 #[derive(Clone, Copy)]
 pub struct Answer {
     pub head: u32,
@@ -25,11 +26,12 @@ pub fn solve(m: u32, n: usize, lines: &[u32]) -> Answer
     Answer {
         head: written.head,
         len: written.len,
-        numbers: numbers,
+        numbers,
     }
 }
 
-// A block whose numbers lie in lent memory: its head, and how many they are.
+// A block whose numbers lie in lent memory: its head, and how many they are. `written_of`, by which `solve_into` is promised, has these two
+// fields; there is no heap for the numbers themselves.
 #[derive(Clone, Copy)]
 pub struct Written {
     pub head: u32,
@@ -43,15 +45,12 @@ pub fn solve_into(m: u32, n: usize, lines: &[u32], numbers: &mut [u32]) -> Writt
     ensures value { result ≡ written_of m n (equations_of n lines.now) }
     ensures numbers_after { numbers.new ≡ over (behind_head m n (equations_of n lines.now)) numbers.old }
 {
-    let vectors = solution(m, n, lines, numbers);
-    if vectors == 0 {
-        let len = refutation(m, n, lines, numbers);
-        return Written { head: 0, len: len };
-    }
+    let system = System { m, n, lines };
+    let Some(vectors) = system.solution(numbers) else {
+        let len = system.refutation(numbers);
+        return Written { head: 0, len };
+    };
     let head = vectors as u32;
     let len = vectors * n;
-    Written {
-        head: head,
-        len: len,
-    }
+    Written { head, len }
 }

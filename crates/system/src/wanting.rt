@@ -7,7 +7,6 @@ ghost use Rattle.system.specs.Claims.{Claimed, claim_of};
 ghost use Rattle.system.specs.Wanted.{wanted_of};
 
 use crate::around::lines_around;
-use slices::filling::zeros;
 
 // The equations for a claim, a row of n + 1 numbers each, at the front of lent memory; how many they are. A claim is the entries of a
 // starting vector and of its steps; the empty one claims no solution.
@@ -28,6 +27,6 @@ fn contradiction_into(n: usize, lines: &mut [u32])
     requires { n + 1 ≤ length lines.old }
     ensures { lines.new ≡ over (as_row (constant n 1)) lines.old }
 {
-    zeros(&mut lines[..n]);
+    lines[..n].fill(0);
     lines[n] = 1;
 }

@@ -1,23 +1,20 @@
 -- A basis of no equation, made of zeros: in front of `at` the rows have their pivot m, and `left` rows are still zeros.
 --   Cleared                       what holds before each row
---   cleared_start, -next, -end    before the first row, one row, behind the last one
+--   cleared_next, cleared_end     one row, behind the last one
 use mathlib.Core.Path.{◌≡◌, refl, sym, ap, ap₂, ◌∙◌}
 use mathlib.Core.List.{List, [], ◌∷◌, ◌++◌, append_assoc, append-nil}
-use Prim.Native.Nat.{ℕ, zero, suc, ◌+◌, ◌-◌, ◌<◌, ◌≤◌}
+use Prim.Native.Nat.{ℕ, zero, suc, ◌+◌, ◌-◌, ◌<◌}
 use native.Mathlib.Omega.{arith}
 use lib.ListN.{length, take, drop, set, replicate, length-append, length-replicate, take-append-drop, replicate-append-replicate}
 use lib.Seq.{take_at, drop_at, set_at, take-length, length-take-le}
 use Rattle.elimination.specs.Basis.{empty}
 use Rattle.tableau.specs.Packed.{rows, triangle}
-use Rattle.tableau.proofs.Packed.{triangle-front, clear_next, length_zeros}
+use Rattle.tableau.proofs.Packed.{clear_next}
 
 pub record Cleared (m k w : ℕ) (b : List ℕ) (at left : ℕ) : Type 0 where
   pub size : length b ≡ at + triangle left (left + k)
   pub zeros : drop at b ≡ replicate (triangle left (left + k)) 0
   pub finish : (x : List ℕ) → rows left (left + k) x ≡ empty m k left → rows w (w + k) (take at b ++ x) ≡ empty m k w
-
-pub cleared_start : (m k w : ℕ) (b : List ℕ) → b ≡ replicate (triangle w (w + k)) 0 → Cleared m k w b 0 w
-cleared_start m k w b e = record { size = omega (arith, length_zeros (triangle w (w + k)) e); zeros = e; finish = λ x f. f }
 
 triangle-suc : (v k : ℕ) → triangle (suc v) (suc v + k) ≡ suc (v + k) + triangle v (v + k)
 triangle-suc v k = let e : suc v + k ≡ suc (v + k) = omega arith in rw e
@@ -66,13 +63,12 @@ module _ (m k w : ℕ) (b : List ℕ) (at v : ℕ) (C : Cleared m k w b at (suc 
           clear_next m k (suc v) row x (omega arith) (omega (arith, length-replicate {A = ℕ} (v + k) 0)) (rw d) (rw a e)
 
 pub cleared_next : (m k w : ℕ) (b : List ℕ) (at left : ℕ) → 0 < left → Cleared m k w b at left
-    → Cleared m k w (set b at m) (at + (left + k)) (left - 1)
+    → Cleared m k w (set b at m) (at + (left - 1 + 1 + k)) (left - 1)
 cleared_next m k w b at zero h C = absurd (omega arith)
-cleared_next m k w b at (suc v) h C = let a : suc v - 1 ≡ v = omega arith in rw a (next m k w b at v C)
-
--- the next row lies in the basis
-pub cleared_fits : (m k w : ℕ) (b : List ℕ) (at left : ℕ) → 0 < left → Cleared m k w b at left → at + (left + k) ≤ length b
-cleared_fits m k w b at left h C = omega (arith, C.size, triangle-front left (left + k) h)
+cleared_next m k w b at (suc v) h C =
+    let a : suc v - 1 ≡ v = omega arith in
+    let e : v + 1 ≡ suc v = omega arith in
+    rw (a, e) (next m k w b at v C)
 
 pub cleared_end : (m k w : ℕ) (b : List ℕ) (at left : ℕ) → left ≡ 0 → Cleared m k w b at left → rows w (w + k) b ≡ empty m k w
 cleared_end m k w b at zero h C =

@@ -1,17 +1,19 @@
 -- A combination of two lists a and b that is stored over a third one o (in use a or b itself), an entry in each turn: after i
 -- turns the list x is a combination in front and o behind it.
---   combined_start, -next, -end   before the first turn, one turn, after the last one
---   combined-read                 what the next turn reads is still that of o
---   Both, both_start, -next, -end two combinations at once, the first stored over a and the second over b
---   both_below                    what the next turn reads of residues is below m
---   minus_is                      p·a - b is the combination with minus 1
+--   combined-next          one turn
+--   combined-read          what the next turn reads is still that of o
+--   beside-next, -below    the same where o is b, and what is read of residues is below m
+--   Both, both_next        two combinations at once, the first stored over a and the second over b
+--   both_below             what the next turn reads of residues is below m
+--   multiple_is            a multiple is a combination with a list that is taken 0 times
+--   minus_is               p·a - b is the combination with minus 1
 use mathlib.Core.Path.{◌≡◌, refl, sym, ap, ap₂, ◌∙◌}
 use mathlib.Core.List.{List, [], ◌∷◌, ◌++◌}
-use Prim.Native.Nat.{ℕ, zero, suc, ◌+◌, ◌*◌, ◌%◌, ◌≤◌, ◌<◌, zero-le}
+use Prim.Native.Nat.{ℕ, zero, suc, ◌+◌, ◌*◌, ◌%◌, ◌<◌}
 use native.Mathlib.Nat.{suc_inj, mod-eq_of_lt}
 use native.Mathlib.Numerals.{add-one}
 use native.Mathlib.Omega.{arith}
-use lib.ListN.{length, take, drop, get_or, set, length-set}
+use lib.ListN.{length, take, drop, get_or, set}
 use Rattle.residue.specs.Congruent.{Congruent}
 use Rattle.residue.specs.Negative.{negative}
 use Rattle.residue.proofs.Congruent.{congruent_of, congruent_of_eq, congruent_refl, congruent_sym, congruent_trans}
@@ -24,9 +26,6 @@ abbrev pub Combined : ℕ → ℕ → ℕ → List ℕ → List ℕ → List ℕ
 Combined m s t a b o i x = x ≡ combine m s t (take i a) (take i b) ++ drop i o
 
 module _ (m s t : ℕ) where
-  pub combined_start : (a b o : List ℕ) → Combined m s t a b o 0 o
-  combined_start a b o = refl
-
   read : (i : ℕ) (a b o : List ℕ) → length a ≡ length b → length o ≡ length a → i < length a
       → get_or (combine m s t (take i a) (take i b) ++ drop i o) i 0 ≡ get_or o i 0
   read i [] b o h g l = absurd (omega arith)
@@ -45,14 +44,6 @@ module _ (m s t : ℕ) where
   write (suc i) (x ∷ a) (y ∷ b) (z ∷ o) h g l =
       ap {B = List ℕ} (λ r. (s * x + t * y) % m ∷ r) (write i a b o (suc_inj h) (suc_inj g) (omega arith))
 
-  done : (a b o : List ℕ) → length a ≡ length b → length o ≡ length a
-      → combine m s t (take (length a) a) (take (length a) b) ++ drop (length a) o ≡ combine m s t a b
-  done [] b [] h g = refl
-  done [] b (z ∷ o) h g = absurd (omega arith)
-  done (x ∷ a) [] o h g = absurd (omega arith)
-  done (x ∷ a) (y ∷ b) [] h g = absurd (omega arith)
-  done (x ∷ a) (y ∷ b) (z ∷ o) h g = ap {B = List ℕ} (λ r. (s * x + t * y) % m ∷ r) (done a b o (suc_inj h) (suc_inj g))
-
   pub combined-read : (i : ℕ) (a b o x : List ℕ) → length a ≡ length b → length o ≡ length a → i < length a
       → Combined m s t a b o i x → get_or x i 0 ≡ get_or o i 0
   combined-read i a b o x h g l e = ap (λ (z : List ℕ). get_or z i 0) e ∙ read i a b o h g l
@@ -65,54 +56,42 @@ module _ (m s t : ℕ) where
       ap₂ (λ (z : List ℕ) (k : ℕ). set z i k) e (d ∙ ap₂ (λ (u w : ℕ). (s * u + t * w) % m) f k) ∙ write i a b o h g l
       ∙ ap (λ (k : ℕ). combine m s t (take k a) (take k b) ++ drop k o) (sym (add-one i))
 
-  pub combined_end : (i : ℕ) (a b o x : List ℕ) → length a ≡ length b → length o ≡ length a → i ≡ length a
-      → Combined m s t a b o i x → x ≡ combine m s t a b
-  combined_end i a b o x h g l e =
-      e ∙ ap (λ (k : ℕ). combine m s t (take k a) (take k b) ++ drop k o) l ∙ done a b o h g
+  -- where the second list is the one written over: what a turn reads of it is as it was, and so below m where all of it is
+  module _ (i : ℕ) (a b x : List ℕ) (long : length a ≡ length b) (here : i < length a) where
+    pub beside-next : (v : ℕ) → Combined m s t a b b i x → v ≡ (s * get_or a i 0 + t * get_or x i 0) % m
+        → Combined m s t a b b (i + 1) (set x i v)
+    beside-next v e d =
+        combined-next i v (get_or a i 0) (get_or x i 0) a b b x long (sym long) here e refl
+        (combined-read i a b b x long (sym long) here e) d
 
--- ---- two combinations at once, the first over a and the second over b
+    pub beside-below : Below m b → Combined m s t a b b i x → get_or x i 0 < m
+    beside-below h e = omega (arith, combined-read i a b b x long (sym long) here e, below_at m i b h (omega arith))
 
-pub record Both (m s t p n : ℕ) (a b : List ℕ) (i : ℕ) (row line : List ℕ) : Type 0 where
-  pub passed : i ≤ length a
-  pub row-length : length row ≡ length a
-  pub line-length : length line ≡ length b
-  pub row_is : Combined m s t a b a i row
-  pub line_is : Combined m p n a b b i line
+-- ---- two combinations at once, the first over a and the second over b: what a turn reads of both is as it was
 
-pub both_start : (m s t p n : ℕ) (a b : List ℕ) → Both m s t p n a b 0 a b
-both_start m s t p n a b = record { passed = zero-le; row-length = refl; line-length = refl; row_is = refl; line_is = refl }
+abbrev pub Both : ℕ → ℕ → ℕ → ℕ → ℕ → List ℕ → List ℕ → ℕ → List ℕ → List ℕ → Type 0
+Both m s t p n a b i row line = Combined m s t a b a i row × Combined m p n a b b i line
 
-both_read : (m s t p n : ℕ) (a b : List ℕ) (i : ℕ) (row line : List ℕ) → length a ≡ length b → i < length a
-    → Both m s t p n a b i row line → (get_or row i 0 ≡ get_or a i 0) × (get_or line i 0 ≡ get_or b i 0)
-both_read m s t p n a b i row line h l B =
-    (combined-read m s t i a b a row h refl l B.row_is, combined-read m p n i a b b line h (sym h) l B.line_is)
+module _ (m s t p n i : ℕ) (a b row line : List ℕ) (long : length a ≡ length b) (here : i < length a) where
+  pub both_below : Below m a → Below m b → Both m s t p n a b i row line → (get_or row i 0 < m) × (get_or line i 0 < m)
+  both_below h g (e, f) = (
+    omega (arith, combined-read m s t i a b a row long refl here e, below_at m i a h here),
+    omega (arith, combined-read m p n i a b b line long (sym long) here f, below_at m i b g (omega arith)),
+  )
 
-pub both_below : (m s t p n : ℕ) (a b : List ℕ) (i : ℕ) (row line : List ℕ) → length a ≡ length b → i < length a
-    → Below m a → Below m b → Both m s t p n a b i row line → (get_or row i 0 < m) × (get_or line i 0 < m)
-both_below m s t p n a b i row line h l x y B =
-    let e = both_read m s t p n a b i row line h l B in
-    (omega (arith, e.0, below_at m i a x l), omega (arith, e.1, below_at m i b y (omega arith)))
-
-pub both_next : (m s t p n : ℕ) (a b : List ℕ) (i : ℕ) (row line : List ℕ) (x y : ℕ) → length a ≡ length b → i < length a
-    → Both m s t p n a b i row line → x ≡ (s * get_or row i 0 + t * get_or line i 0) % m
-    → y ≡ (p * get_or row i 0 + n * get_or line i 0) % m → Both m s t p n a b (i + 1) (set row i x) (set line i y)
-both_next m s t p n a b i row line x y h l B e f =
-    let r = both_read m s t p n a b i row line h l B in
-    record {
-      passed = omega arith;
-      row-length = length-set row i x ∙ B.row-length;
-      line-length = length-set line i y ∙ B.line-length;
-      row_is = combined-next m s t i x (get_or row i 0) (get_or line i 0) a b a row h refl l B.row_is r.0 r.1 e;
-      line_is = combined-next m p n i y (get_or row i 0) (get_or line i 0) a b b line h (sym h) l B.line_is r.0 r.1 f;
-    }
-
-pub both_end : (m s t p n : ℕ) (a b : List ℕ) (i : ℕ) (row line : List ℕ) → length a ≡ length b → length row ≤ i
-    → Both m s t p n a b i row line → (row ≡ combine m s t a b) × (line ≡ combine m p n a b)
-both_end m s t p n a b i row line h l B =
-    let e : i ≡ length a = omega (arith, B.passed, B.row-length) in
-    (combined_end m s t i a b a row h refl e B.row_is, combined_end m p n i a b b line h (sym h) e B.line_is)
+  pub both_next : (x y : ℕ) → Both m s t p n a b i row line → x ≡ (s * get_or row i 0 + t * get_or line i 0) % m
+      → y ≡ (p * get_or row i 0 + n * get_or line i 0) % m → Both m s t p n a b (i + 1) (set row i x) (set line i y)
+  both_next x y (e, f) g h =
+      let u = combined-read m s t i a b a row long refl here e in
+      let v = combined-read m p n i a b b line long (sym long) here f in (
+        combined-next m s t i x (get_or row i 0) (get_or line i 0) a b a row long refl here e u v g,
+        combined-next m p n i y (get_or row i 0) (get_or line i 0) a b b line long (sym long) here f u v h,
+      )
 
 -- ---- entries
+
+pub multiple_is : {v : ℕ} (m t b a : ℕ) → v ≡ t * b % m → v ≡ (0 * a + t * b) % m
+multiple_is m t b a is = let alone : t * b ≡ 0 * a + t * b = omega arith in is ∙ ap (λ (z : ℕ). z % m) alone
 
 -- r + b is p·a up to one m
 pub minus_is : (m p a b r k : ℕ) → r < m → r + b ≡ (p * a) % m + k * m → r ≡ (p * a + negative m 1 % m * b) % m

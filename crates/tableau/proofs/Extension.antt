@@ -1,10 +1,10 @@
 -- Back substitution, a column in each turn: before a turn the entries from i on are known, and the row of column i - 1 is the next.
 --   Extended                        what holds before a turn
---   extended_start, -next, -end     before the first turn, one turn, after the last one
---   extended_begins, -ends, -asks   the next row lies in the list, is kept, and is as long as is wanted
+--   extended_next                   one turn
+--   extended_ends, -asks            the next row lies in the list, is kept, and is as long as is wanted
 use mathlib.Core.Path.{◌≡◌, refl, sym, ap, ap₂, ◌∙◌, subst}
 use mathlib.Core.List.{List, ◌∷◌}
-use Prim.Native.Nat.{ℕ, zero, suc, ◌+◌, ◌-◌, ◌≤◌, ◌<◌}
+use Prim.Native.Nat.{ℕ, suc, ◌+◌, ◌-◌, ◌≤◌, ◌<◌}
 use native.Mathlib.Nat.{le_refl}
 use native.Mathlib.Numerals.{add-one}
 use native.Mathlib.Omega.{arith}
@@ -26,19 +26,6 @@ pub record Extended (m j l : ℕ) (b X x : List ℕ) (at i : ℕ) : Type 0 where
   pub size : length x ≡ length X
   pub same : drop i x ≡ extend m (j - i) (rows (j - i) (l - i) (drop at b)) (drop j X)
   pub below : Below m (drop i x)
-
-pub extended_start : (m j l at : ℕ) (b X : List ℕ) → at ≡ triangle j l → Below m (drop j X) → Extended m j l b X X at j
-extended_start m j l at b X e h =
-    let z : j - j ≡ 0 = omega arith in
-    record { passed = le_refl j; place_is = e; size = refl; same = rw z; below = h }
-
-pub extended_end : (m j l : ℕ) (b X x : List ℕ) (at i : ℕ) → i ≡ 0 → Extended m j l b X x at i
-    → (x ≡ extend m j (rows j l b) (drop j X)) × Below m x
-extended_end m j l b X x at zero h E =
-    let e : j - 0 ≡ j = omega arith in
-    let f : l - 0 ≡ l = omega arith in
-    (rw (e, f, E.place_is) at E.same, E.below)
-extended_end m j l b X x at (suc i) h E = absurd (omega arith)
 
 drop-stored : (p v : ℕ) (x : List ℕ) → p < length x → drop p (set x p v) ≡ v ∷ drop (suc p) x
 drop-stored p v x h =
@@ -133,9 +120,6 @@ module _ (m j k : ℕ) (b X x : List ℕ) (at i : ℕ) (E : Extended m j (length
 
   whole : o + (l - p) ≤ length b
   whole = fits m j l b X x at p o before inside wide room refl
-
-  pub extended_begins : l - p ≤ at
-  extended_begins = omega (arith, before.place_is, triangle-last p l)
 
   pub extended_ends : end ≤ length b
   extended_ends = omega (arith, whole)

@@ -1,7 +1,5 @@
 -- Laws that the proofs of this crate's functions cite.
 pub mod Combined
-pub mod Multiples
-pub mod Stores
 pub mod Packed
 pub mod Cleared
 pub mod Column

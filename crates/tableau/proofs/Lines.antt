@@ -3,7 +3,7 @@
 --   turned-append, turned-reverse       a vector turned round, in front of other numbers
 --   load_length, load_is                the parts of a line put together: the unknowns T, the constant v, the carried columns U
 --   loadable_some                       there is a residue
---   loaded_plain, loaded_equation       a line of either kind
+--   loaded_equation                     a line that is not plain
 --   line-front                          a line is read off its own numbers alone
 --   lines_none, lines_more              a list without a whole line, and with one
 --   lines-equations                     lines that are not plain are those of the equations
@@ -15,10 +15,8 @@ use native.Mathlib.Nat.{mod-lt, div-eq_of_lt}
 use native.Mathlib.Numerals.{add-one}
 use native.Mathlib.Omega.{arith}
 use lib.ListN.{length, take, drop, get_or, set, length-append, length-drop, length-set}
-use lib.Seq.{take_at, take-take, take-length, drop-cons, set_at, append_snoc}
+use lib.Seq.{take_at, take-take, drop-cons, set_at, append_snoc}
 use Rattle.slices.proofs.Parts.{lent, put_back, lent_is, lent_length, put_back_is, parts_suc}
-use Rattle.slices.proofs.Over.{over-front}
-use Rattle.slices.specs.Over.{over}
 use Rattle.residue.specs.Negative.{negative}
 use Rattle.equations.specs.Equation.{Equation}
 use Rattle.equations.specs.Vectors.{Below, unit}
@@ -87,17 +85,7 @@ pub loadable_some : (plain : Bool) (m k : ℕ) → Loadable plain m k → 0 < m
 loadable_some true m k h = h.0
 loadable_some false m k h = omega arith
 
-all_taken : (l : ℕ) (x : List ℕ) → length x ≡ l → x ≡ take l x
-all_taken l x h = sym (ap (λ (j : ℕ). take j x) (sym h) ∙ take-length x)
-
 module _ (plain : Bool) (m n k i : ℕ) (s x : List ℕ) (load : Loadable plain m k) (below : Below m s) where
-  pub loaded_plain : plain ≡ true → length s ≡ n + 1 → length x ≡ n + 1 + k → (old : List ℕ) → x ≡ over s old
-      → (x ≡ line_at plain m n k i s) × Below m x
-  loaded_plain kind long room old e =
-      let none = subst (λ (p : Bool). Loadable p m k) kind load in
-      let same = all_taken (n + 1) x (omega (arith, room, none.1)) ∙ over-front (n + 1) s old e long in
-      (rw kind (same ∙ all_taken (n + 1) s long), subst (Below m) (sym same) below)
-
   pub loaded_equation : plain ≡ false → x ≡ line m (equation_at n s) (unit k i) → (x ≡ line_at plain m n k i s) × Below m x
   loaded_equation kind e =
       let some = subst (λ (p : Bool). Loadable p m k) kind load in

@@ -1,5 +1,5 @@
 -- Sums of products: of small ones as they are, of others by their low and high halves, of 32 bits each, which are summed apart.
---   Summed, summed_start, -next, -end   the sum of small products: of none, of one more, of all
+--   dot_more, dot-all                   the sum of the first products: of one more, of all
 --   small_product                       a product of residues of a small modulus
 --   Halves, halves_start, -next, -end   the two sums: of no product, of one more, of all
 --   high_fits                           the sum of the high halves fits 64 bits
@@ -26,28 +26,11 @@ dot_grow (suc i) (x ∷ a) (y ∷ b) h l = omega (arith, dot_grow i a b (suc_inj
 
 -- the sum of the first i products: with one more, and where these are all
 module _ (i : ℕ) (a b : List ℕ) (h : length a ≡ length b) where
-  dot_more : i < length a → dot (take i a) (take i b) + get_or a i 0 * get_or b i 0 ≡ dot (take (i + 1) a) (take (i + 1) b)
+  pub dot_more : i < length a → dot (take i a) (take i b) + get_or a i 0 * get_or b i 0 ≡ dot (take (i + 1) a) (take (i + 1) b)
   dot_more l = sym (dot_grow i a b h l) ∙ ap (λ (k : ℕ). dot (take k a) (take k b)) (sym (add-one i))
 
-  dot-all : i ≡ length a → dot (take i a) (take i b) ≡ dot a b
+  pub dot-all : i ≡ length a → dot (take i a) (take i b) ≡ dot a b
   dot-all e = ap₂ dot (ap (λ (k : ℕ). take k a) e ∙ take-length a) (ap (λ (k : ℕ). take k b) (e ∙ h) ∙ take-length b)
-
--- the sum is n. It stays shut, as `Halves` does below.
-unfoldable pub Summed : ℕ → ℕ → Type 0
-Summed all n = all ≡ n
-
-pub summed_start : (a b : List ℕ) → Summed 0 (dot (take 0 a) (take 0 b))
-unfolding Summed
-summed_start a b = refl
-
-module _ (i all : ℕ) (a b : List ℕ) (h : length a ≡ length b) (so_far : Summed all (dot (take i a) (take i b))) where
-  pub summed_next : (x : ℕ) → i < length a → x ≡ get_or a i 0 * get_or b i 0 → Summed (all + x) (dot (take (i + 1) a) (take (i + 1) b))
-  unfolding Summed
-  summed_next x l e = ap₂ ◌+◌ so_far e ∙ dot_more i a b h l
-
-  pub summed_end : i ≡ length a → all ≡ dot a b
-  unfolding Summed
-  summed_end e = so_far ∙ dot-all i a b h e
 
 pub small_product : (m x y : ℕ) → m ≤ 16777216 → x < m → y < m → x * y ≤ 281474943156225
 small_product m x y small h g = mul-le-mul {n₁ = x} {m₁ = y} {n₂ = 16777215} {m₂ = 16777215} (omega arith) (omega arith)

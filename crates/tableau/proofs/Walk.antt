@@ -1,13 +1,11 @@
 -- Packed rows and the rows behind the first one.
 --   kept-front, kept-behind   what a basis keeps to, of its first row and of the rows behind it
 --   kept_from                 and of the rows behind the first i
---   walk_line                 the insertion of a line that is known otherwise
-use mathlib.Core.Path.{◌≡◌, sym, ap, ap₂, ◌∙◌}
+use mathlib.Core.Path.{◌≡◌}
 use mathlib.Core.List.{List}
 use Prim.Native.Nat.{ℕ, zero, suc, ◌-◌, ◌<◌, ◌≤◌}
 use native.Mathlib.Omega.{arith}
-use lib.ListN.{length, take, drop}
-use Rattle.elimination.specs.Basis.{insert}
+use lib.ListN.{take, drop}
 use Rattle.tableau.specs.Packed.{rows, triangle, RowKept, Kept}
 use Rattle.tableau.proofs.Packed.{rows_split, drop-row}
 
@@ -28,9 +26,3 @@ kept_from m (suc i) j l b h k =
     let f : l - i - 1 ≡ l - suc i = omega arith in
     let rest = kept-behind m (j - i) (l - i) (drop (triangle i l) b) (omega arith) (kept_from m i j l b (omega arith) k) in
     rw (e, f, drop-row i l b) at rest
-
--- the line X that was lent is L, and known as W
-pub walk_line : (m w l : ℕ) (b x X L W : List ℕ) → length X ≡ l → X ≡ L → L ≡ W
-    → rows w (length X) x ≡ insert m (rows w (length X) b) X → rows w l x ≡ insert m (rows w l b) W
-walk_line m w l b x X L W h e d f =
-    ap (λ (n : ℕ). rows w n x) (sym h) ∙ f ∙ ap₂ (λ (n : ℕ) (v : List ℕ). insert m (rows w n b) v) h (e ∙ d)

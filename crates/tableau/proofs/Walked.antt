@@ -1,14 +1,13 @@
 -- The walk over the columns: before column j the rows in front of `at` are done, and v rows are left, the first of q numbers.
 -- Whatever list x these rows become, if it is the insertion of the rest of the line, then the whole is the insertion of the line.
 --   Walked                    what holds before column j
---   walked_first, walked_end  before the first column, and behind the last one
 --   walked_fits, walked_asks  the next row lies in the basis, and may be lent
 --   walked_next, walked_stop  from one column to the next, and no further
-use mathlib.Core.Path.{◌≡◌, refl, sym, ap, ap₂, ◌∙◌, subst}
+use mathlib.Core.Path.{◌≡◌, sym, ap, ap₂, ◌∙◌, subst}
 use mathlib.Core.List.{List, ◌∷◌, ◌++◌, append_assoc}
-use Prim.Native.Nat.{ℕ, zero, suc, ◌+◌, ◌-◌, ◌≤◌, ◌<◌}
+use Prim.Native.Nat.{ℕ, ◌+◌, ◌-◌, ◌≤◌, ◌<◌}
 use native.Mathlib.Omega.{arith}
-use lib.ListN.{length, take, drop, length-append, length-drop, take-append-drop}
+use lib.ListN.{length, take, drop, length-append, length-drop}
 use lib.Seq.{take_at, drop_at, drop-drop, length-take-le}
 use Rattle.equations.specs.Vectors.{Below}
 use Rattle.equations.proofs.Vectors.{below-drop}
@@ -31,25 +30,6 @@ pub record Walked (m w l : ℕ) (b₀ L₀ b L : List ℕ) (at j v q : ℕ) : Ty
   pub kept : Kept m (rows v q (drop at b))
   pub finish : (x : List ℕ) → rows v q x ≡ insert m (rows v q (drop at b)) (drop j L) → Kept m (rows v q x)
       → (rows w l (take at b ++ x) ≡ insert m (rows w l b₀) L₀) × Kept m (rows w l (take at b ++ x))
-
-walked_start : (m w l : ℕ) (b L : List ℕ) → w ≤ l → length b ≡ triangle w l → length L ≡ l → Below m L
-    → Kept m (rows w l b) → Walked m w l b L b L 0 0 w l
-walked_start m w l b L h size len below kept = record {
-  columns = omega arith;
-  numbers = omega arith;
-  inside = h;
-  same_size = refl;
-  basis-size = omega arith;
-  line-size = len;
-  below = below;
-  kept = kept;
-  finish = λ x e k. (e, k);
-}
-
-pub walked_end : (m w l : ℕ) (b₀ L₀ b L : List ℕ) (at j v q : ℕ) → v ≡ 0 → Walked m w l b₀ L₀ b L at j v q
-    → (rows w l b ≡ insert m (rows w l b₀) L₀) × Kept m (rows w l b)
-walked_end m w l b₀ L₀ b L at j zero q h W = rw take-append-drop at (W.finish (drop at b) refl tt)
-walked_end m w l b₀ L₀ b L at j (suc v) q h W = absurd (omega arith)
 
 module _ (m w l : ℕ) (b₀ L₀ b L : List ℕ) (at j v q : ℕ) (W : Walked m w l b₀ L₀ b L at j v q) (some : 0 < v) where
   room : q ≤ length (drop at b)
@@ -143,13 +123,6 @@ module _ (m w l : ℕ) (b₀ L₀ b L : List ℕ) (at j v q : ℕ) (W : Walked m
     }
 
 -- ---- as the code has it: w - j rows are left, and those that are lent end at `end`
-
-pub walked_first : (m w l : ℕ) (b L : List ℕ) → w ≤ l → length b ≡ triangle w l → length L ≡ l → Below m L
-    → Kept m (rows w l b) → Walked m w l b L b L 0 0 (w - 0) (l - 0)
-walked_first m w l b L h size len below kept =
-    let e : w - 0 ≡ w = omega arith in
-    let f : l - 0 ≡ l = omega arith in
-    rw (e, f) (walked_start m w l b L h size len below kept)
 
 module _ (m w l : ℕ) (b₀ L₀ b L : List ℕ) (at j end : ℕ) (W : Walked m w l b₀ L₀ b L at j (w - j) (l - j)) (some : j < w)
     (ends : end ≡ at + (l - j)) where

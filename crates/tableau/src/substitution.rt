@@ -46,9 +46,7 @@ pub fn extend(basis: &[u32], x: &mut [u32], m: u32, j: usize, k: usize, size: us
 {
     let len = x.len();
     let mut at = size;
-    let mut i = j;
-    while i > 0 {
-        i -= 1;
+    for i in (0..j).rev() {
         at -= len + k - i;
         let end = at + (len - i);
         let v = entry(&basis[at..end], &x[i + 1..], m);

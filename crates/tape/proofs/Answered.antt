@@ -10,6 +10,7 @@ use native.Mathlib.Omega.{arith}
 use borrow.Author.Tests.{ne_eqb}
 use lib.Dec.{T}
 use lib.ListN.{length, take, get_or}
+use Rattle.std.specs.Prelude.{Ok, Err}
 use Rattle.system.specs.declared.solving.Answer.{Answer}
 use Rattle.equations.specs.Line.{scaled}
 use Rattle.system.specs.Block.{block_of, answer_from}
@@ -21,31 +22,35 @@ use Rattle.ledger.specs.Allowed.{Allowed}
 use Rattle.ledger.specs.Calls.{answers_from_tape, queries}
 use Rattle.ledger.specs.Questions.{refusal_of}
 use Rattle.ledger.proofs.Questions.{accepted-yes}
-use Rattle.sheet.specs.declared.answering.Shown.{Shown}
+use Rattle.questions.proofs.Results.{gives-ok, gives-err}
 use Rattle.sheet.specs.Record.{Sheet, ledger_of}
 use Rattle.sheet.specs.Calls.{shown_of}
-use Rattle.sheet.proofs.Answers.{shown_refusal}
 use Rattle.sheet.proofs.Reading.{reads-allowed}
-use Rattle.sheet.proofs.Solved.{solved_block, solved_whole, solved_head, shown-block}
+use Rattle.sheet.proofs.Solved.{solved_block, solved_whole, solved_head}
 use Rattle.tape.specs.Output.{refused_line, block_lines, call_lines}
 use Rattle.tape.specs.Reader.{lines_on}
 use Rattle.tape.specs.Model.Handed.{Block}
-use Rattle.tape.proofs.Told.{accepted_told}
+use Rattle.tape.proofs.Told.{accepted_told, refused_told}
 
-module _ (s : Sheet) (number : ℕ) {shown : Shown} (is : shown ≡ shown_of (ledger_of s) number) where
+module _ (s : Sheet) (number : ℕ) where
   abbrev l : Ledger
   l = ledger_of s
 
-  refusal_is : shown.refused ≡ refusal_of l (queries (answers_from_tape number))
-  refusal_is = ap (λ (z : Shown). z.refused) is ∙ shown_refusal l number
+  pub refused_shown : {k : ℕ} → Err k ≡ shown_of (ledger_of s) number → refused_line k ≡ lines_on s (queries (answers_from_tape number))
+  unfolding shown_of
+  refused_shown is =
+      let given = gives-err (refusal_of l (queries (answers_from_tape number)))
+      (answer_from (line_block (modulus_of l) (unknowns_of l) (lines_in l))) (sym is) in
+      refused_told s (queries (answers_from_tape number)) given.0 given.1
 
-  pub refused_shown : (shown.refused ≡ 0 → ⊥) → refused_line shown.refused ≡ lines_on s (queries (answers_from_tape number))
-  unfolding call_lines
-  refused_shown some = rw (← refusal_is, ne_eqb shown.refused 0 some)
+  module _ {b : Answer} (is : Ok b ≡ shown_of (ledger_of s) number) where
+    given : (refusal_of l (queries (answers_from_tape number)) ≡ 0) × (b ≡ answer_from (line_block (modulus_of l) (unknowns_of l) (lines_in l)))
+    unfolding shown_of
+    given =
+        gives-ok (refusal_of l (queries (answers_from_tape number))) (answer_from (line_block (modulus_of l) (unknowns_of l) (lines_in l))) (sym is)
 
-  module _ (none : shown.refused ≡ 0) where
     accepted : refusal_of l (queries (answers_from_tape number)) ≡ 0
-    accepted = sym refusal_is ∙ none
+    accepted = given.0
 
     opened : T (is_opened l)
     opened = (accepted-yes l (queries (answers_from_tape number)) accepted).0
@@ -53,13 +58,10 @@ module _ (s : Sheet) (number : ℕ) {shown : Shown} (is : shown ≡ shown_of (le
     allowed : Allowed (modulus_of l) (unknowns_of l) (lines_in l)
     allowed = reads-allowed s opened
 
-    abbrev b : Answer
-    b = shown.block
-
     made : b ≡ answer_from (line_block (modulus_of l) (unknowns_of l) (lines_in l))
-    made = ap (λ (z : Shown). z.block) is ∙ shown-block l number accepted
+    made = given.1
 
-    pub shown-whole : shown.block.len ≤ length shown.block.numbers
+    pub shown-whole : b.len ≤ length b.numbers
     shown-whole = solved_whole l b made
 
     positive : 0 < modulus_of l
@@ -71,7 +73,7 @@ module _ (s : Sheet) (number : ℕ) {shown : Shown} (is : shown ≡ shown_of (le
     same_block = line-block (modulus_of l) (unknowns_of l) positive (lines_in l) allowed.moduli
 
     module _ {n : ℕ} (same : n ≡ unknowns_of l) where
-      pub shown_can : Block n shown.block.head (take shown.block.len shown.block.numbers)
+      pub shown_can : Block n b.head (take b.len b.numbers)
       shown_can =
           let whole = solved_block l allowed b made in
           let scaled-whole = whole ∙ same_block in
@@ -92,7 +94,7 @@ module _ (s : Sheet) (number : ℕ) {shown : Shown} (is : shown ≡ shown_of (le
                 (omega (arith, ap length scaled-whole, block-vectors (modulus_of l) (unknowns_of l) (scaled (modulus_of l) (lines_in l))));
           })
 
-      pub shown-lines : block_lines n (shown.block.head ∷ take shown.block.len shown.block.numbers)
+      pub shown-lines : block_lines n (b.head ∷ take b.len b.numbers)
           ≡ lines_on s (queries (answers_from_tape number))
       shown-lines =
           ap (λ (k : ℕ). block_lines k (b.head ∷ take b.len b.numbers)) same

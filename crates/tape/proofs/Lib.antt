@@ -8,7 +8,6 @@ pub mod Remaining
 pub mod Answered
 pub mod Picked
 pub mod Runs
-pub mod Written
 pub mod Joined
 pub mod Classes
 pub mod Promises

@@ -1,14 +1,10 @@
 -- The call that is picked, and the call that is read from the rest of a tape.
---   picks_add                  a coefficient picks an add, with a minus sign or without
---   picks_few, picks_none      the kinds that begin no call pick nothing
 --   picked_told, picked_call   what is told of one call is told of the call that is picked
 --   next_wants, next_call      how many words the first one wants, and the call read
 --   stepped                    the reader's step, put together
 use mathlib.Core.Path.{◌≡◌, sym, ap, subst, ◌∙◌}
-use mathlib.Core.Logic.{◌⊎◌, ⊎_elim}
 use mathlib.Core.List.{List}
 use Prim.Native.Nat.{ℕ, ◌*◌}
-use borrow.Author.Tests.{ne_eqb}
 use lib.ListN.{length}
 use Rattle.slices.specs.Over.{over}
 use Rattle.words.specs.declared.unpacking.Word.{Word}
@@ -19,31 +15,10 @@ use Rattle.sheet.specs.Record.{Sheet, ledger_of}
 use Rattle.sheet.specs.History.{left}
 use Rattle.tape.specs.declared.calling.Step.{Step}
 use Rattle.tape.specs.declared.picking.Pick.{Pick}
-use Rattle.tape.specs.declared.picking.Pick.TheVariants.{Adding, Nothing}
 use Rattle.tape.specs.Bytes.{words_on}
 use Rattle.tape.specs.FirstCall.{pick_of, wanted_by, wanted, call_by, first_call}
 use Rattle.tape.specs.Reader.{lines_on, first_on, taken_from, step_of}
 use Rattle.tape.specs.Model.Handed.{Tells}
-
-pub picks_add : (k : ℕ) → (k ≡ 3) ⊎ (k ≡ 10) → Adding ≡ pick_of k
-picks_add k either = ⊎_elim (λ is. rw is) (λ is. rw is) either
-
-pub picks_few : (k : ℕ) → (k ≡ 0) ⊎ ((k ≡ 2) ⊎ ((k ≡ 4) ⊎ (k ≡ 11))) → Nothing ≡ pick_of k
-picks_few k few = ⊎_elim (λ is. rw is) (⊎_elim (λ is. rw is) (⊎_elim (λ is. rw is) (λ is. rw is))) few
-
-pub picks_none : (k : ℕ) → (k ≡ 1 → ⊥) → (k ≡ 3 → ⊥) → (k ≡ 5 → ⊥) → (k ≡ 8 → ⊥) → (k ≡ 9 → ⊥) → (k ≡ 10 → ⊥) → (k ≡ 12 → ⊥)
-    → (k ≡ 13 → ⊥) → Nothing ≡ pick_of k
-picks_none k not-1 not-3 not-5 not-8 not-9 not-10 not-12 not-13 =
-    rw (
-      ne_eqb k 1 not-1,
-      ne_eqb k 3 not-3,
-      ne_eqb k 5 not-5,
-      ne_eqb k 8 not-8,
-      ne_eqb k 9 not-9,
-      ne_eqb k 10 not-10,
-      ne_eqb k 12 not-12,
-      ne_eqb k 13 not-13,
-    )
 
 pub picked_told : (s : Sheet) {c d : Call} {after : Sheet} {old new : List ℕ} {k : ℕ} → c ≡ d → Tells s c after old new k
     → Tells s d after old new k

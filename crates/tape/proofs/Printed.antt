@@ -1,7 +1,7 @@
 -- Decimal numbers and lines, as they are written byte by byte.
 --   decimal_some, -most   a number has a digit, and a 32-bit number at most 10
 --   decimal-first, -next   its one digit written; its last one, behind those before it
---   spaced_on, -end       one number more behind the spaced ones; all of them
+--   spaced_on             one number more behind the spaced ones
 --   line-length           how many bytes a line has
 --   line-written          the byte that ends a line
 use mathlib.Core.Path.{◌≡◌, refl, sym, ap, ◌∙◌}
@@ -12,7 +12,7 @@ use native.Mathlib.Nat.{eq-zero-or-pos}
 use native.Mathlib.Numerals.{add-one}
 use native.Mathlib.Omega.{arith}
 use lib.ListN.{length, take, get_or, set, length-append}
-use lib.Seq.{take-suc, take-length}
+use lib.Seq.{take-suc}
 use Rattle.slices.specs.Over.{over}
 use Rattle.slices.proofs.Over.{over-one}
 use Rattle.tape.specs.Text.{decimal, decimal-small, decimal_step, spaced, line_of}
@@ -63,9 +63,6 @@ spaced_on xs i h =
 pub spaced-length : (xs : List ℕ) (i : ℕ) → i < length xs
     → length (spaced (take (i + 1) xs)) ≡ length (spaced (take i xs)) + length (32 ∷ decimal (get_or xs i 0))
 spaced-length xs i h = ap length (spaced_on xs i h) ∙ length-append (spaced (take i xs)) _
-
-pub spaced_end : (xs : List ℕ) (i : ℕ) → i ≡ length xs → spaced (take i xs) ≡ spaced xs
-spaced_end xs i h = rw h (ap spaced (take-length xs))
 
 module _ (name xs : List ℕ) where
   pub line-length : length (line_of name xs) ≡ length name + length (spaced xs) + 1

@@ -2,11 +2,12 @@
 --   remaining           the lines of the calls on the rest, and the line of the bytes left over
 --   lines_remaining     those of the whole tape are its lines
 --   remaining_step      the lines of the first call, and what remains behind it
---   remaining_end       less than a word prints the line of the bytes left over
+--   remaining_end       less than a word prints the line of the bytes left over, and then nothing:
+--   remaining_none, -over
 --   used_by              the bytes that a step takes
 --   used_some, -fits    a word at least, and no more than there is
 use mathlib.Core.Path.{◌≡◌, refl, sym, ap, ◌∙◌}
-use mathlib.Core.List.{List, [], ◌∷◌, ◌++◌, append_assoc}
+use mathlib.Core.List.{List, [], ◌∷◌, ◌++◌, append_assoc, append-nil}
 use Prim.Native.Nat.{ℕ, ◌*◌, ◌%◌, ◌≤◌, ◌<◌}
 use native.Mathlib.Omega.{arith}
 use borrow.Author.Tests.{le-leb}
@@ -26,10 +27,8 @@ use Rattle.tape.specs.Counted.Calls.{wanted_some}
 use Rattle.tape.specs.Calls.{calls_on, calls-none, calls-first}
 use Rattle.tape.specs.Output.{call_lines, lines_from, left_over_line, most_bytes, lines}
 use Rattle.tape.specs.Reader.{lines_on, first_on, taken_from}
+pub use Rattle.tape.specs.Run.{remaining}
 use Rattle.tape.proofs.OnTape.{words_length, words_behind}
-
-abbrev pub remaining : Ledger → List ℕ → List ℕ
-remaining l rest = lines_from l (calls_on l (words_on rest)) ++ left_over_line rest
 
 pub lines_remaining : (tape : List ℕ) → length tape ≤ most_bytes → lines tape ≡ remaining (ledger_of fresh) tape
 unfolding lines
@@ -93,3 +92,11 @@ remaining_end l rest short =
     ap (λ (ws : List ℕ). lines_from l (calls_on l ws) ++ left_over_line rest)
     (no_words (words_on rest) (omega (arith, words_length rest)))
     ∙ ap (λ (calls : List Call). lines_from l calls ++ left_over_line rest) (calls-none l)
+
+pub remaining_none : (l : Ledger) (rest : List ℕ) → length rest ≡ 0 → remaining l rest ≡ []
+remaining_none l rest none = remaining_end l rest (omega arith) ∙ rw none
+
+pub remaining_over : (l : Ledger) (rest after : List ℕ) {told : List ℕ} → length rest < 4 → told ≡ left_over_line rest → length after ≡ 0
+    → remaining l rest ≡ told ++ remaining l after
+remaining_over l rest after {told} short is none =
+    remaining_end l rest short ∙ sym is ∙ sym (append-nil told) ∙ ap (λ (z : List ℕ). told ++ z) (sym (remaining_none l after none))

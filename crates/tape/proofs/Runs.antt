@@ -2,21 +2,18 @@
 --   step-bytes                    a step takes a word at least, and no more than there is
 --   step-written                  its lines are as many bytes as it says, and lie at the front of what was written
 --   step_fits                     so they fit
---   step_remaining, step_counts   and are taken off what remains
---   none_over, none-over-length, some_over   the line of the bytes left over, if there are any
+--   step_remaining                and are taken off what remains
 use mathlib.Core.Path.{◌≡◌, sym, ap, ap₂, ◌∙◌}
 use mathlib.Core.List.{List, ◌++◌}
-use Prim.Native.Nat.{ℕ, ◌+◌, ◌%◌, ◌≤◌}
+use Prim.Native.Nat.{ℕ, ◌≤◌}
 use native.Mathlib.Omega.{arith}
-use borrow.Author.Tests.{ne_eqb}
-use lib.ListN.{length, drop, length-append}
+use lib.ListN.{length, drop}
 use Rattle.slices.specs.Over.{over}
 use Rattle.slices.proofs.Parts.{lent, lent_is}
 use Rattle.slices.proofs.Over.{over-fits}
 use Rattle.sheet.specs.Record.{Sheet, ledger_of}
 use Rattle.sheet.specs.History.{left}
 use Rattle.tape.specs.declared.calling.Step.{Step}
-use Rattle.tape.specs.Output.{refused_line, left_over_line}
 use Rattle.tape.specs.Reader.{lines_on, first_on, step_of}
 use Rattle.tape.proofs.Remaining.{remaining, used_by, used_some, used_fits, remaining_step}
 
@@ -48,18 +45,3 @@ module _ (s : Sheet) (rest : List ℕ) {step : Step} (whole : 4 ≤ length rest)
         ∙ ap (λ (z : List ℕ). lines_on s (first_on s rest) ++ z)
         (ap₂ (λ (t : Sheet) (z : List ℕ). remaining (ledger_of t) z) (sym left_is)
         (ap (λ (k : ℕ). drop k rest) (sym used_is) ∙ sym (lent_is step.used rest)))
-
-    pub step_counts : step.written + length behind ≡ length (remaining (ledger_of s) rest)
-    step_counts =
-        omega (arith, step-written, ap length step_remaining, length-append (lines_on s (first_on s rest)) behind)
-
--- ---- the bytes left over
-
-pub none_over : (rest old : List ℕ) → length rest % 4 ≡ 0 → old ≡ over (left_over_line rest) old
-none_over rest old none = rw none
-
-pub none-over-length : (rest : List ℕ) → length rest % 4 ≡ 0 → 0 ≡ length (left_over_line rest)
-none-over-length rest none = rw none
-
-pub some_over : (rest : List ℕ) → (length rest % 4 ≡ 0 → ⊥) → refused_line 9 ≡ left_over_line rest
-some_over rest some = rw (ne_eqb (length rest % 4) 0 some)

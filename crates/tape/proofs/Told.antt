@@ -12,9 +12,10 @@ use mathlib.Core.Bool.{Bool, true, false, cond}
 use mathlib.Core.List.{List, [], ◌∷◌}
 use Prim.Native.Nat.{ℕ}
 use native.Mathlib.Omega.{arith}
-use borrow.Author.Tests.{eqb-true}
+use borrow.Author.Tests.{ne_eqb}
 use lib.Dec.{eqb}
 use lib.ListN.{length}
+use Rattle.std.specs.Prelude.{Result, Ok, Err}
 use Rattle.slices.specs.Over.{over}
 use Rattle.equations.specs.declared.Mark.{Mark}
 use Rattle.ledger.specs.Ledger.{Ledger, modulus_of, unknowns_of, lines_in}
@@ -25,13 +26,8 @@ use Rattle.ledger.specs.History.{enter}
 use Rattle.ledger.proofs.Effects.{enter-accepted}
 use Rattle.asking.specs.declared.Seen.{Seen}
 use Rattle.asking.specs.Sees.{Sees}
-use Rattle.sheet.specs.declared.Entered.{Entered}
-use Rattle.sheet.specs.declared.Entered.TheVariants.{Holds}
-use Rattle.sheet.specs.declared.Entered.TheVariants.{Refused as Entered-as-Refused}
-use Rattle.sheet.specs.declared.marking.Marked.{Marked}
-use Rattle.sheet.specs.declared.marking.Marked.TheVariants.{Gets}
-use Rattle.sheet.specs.declared.marking.Marked.TheVariants.{Refused as Marked-as-Refused}
 use Rattle.sheet.specs.Record.{Sheet, ledger_of}
+use Rattle.questions.proofs.Results.{gives-ok, gives-err}
 use Rattle.sheet.specs.Calls.{entered_of, marked_of}
 use Rattle.sheet.specs.History.{left}
 use Rattle.sheet.proofs.History.{left-reads}
@@ -41,43 +37,37 @@ use Rattle.tape.specs.Reader.{lines_on}
 use Rattle.tape.specs.Model.Handed.{entered_line, marked_line, Tells}
 
 holds_or_refused : (name : List ℕ) (b : Bool) (k r : ℕ)
-    → entered_line name (cond b (Holds k) (Entered-as-Refused r)) ≡ cond b (line_of name (k ∷ [])) (refused_line r)
+    → entered_line name (cond b (Ok k) (Err r)) ≡ cond b (line_of name (k ∷ [])) (refused_line r)
 holds_or_refused name true k r = refl
 holds_or_refused name false k r = refl
 
 gets_or_refused : (b : Bool) (mark : Mark) (r : ℕ)
-    → marked_line (cond b (Gets mark) (Marked-as-Refused r)) ≡ cond b (mark_line mark) (refused_line r)
+    → marked_line (cond b (Ok mark) (Err r)) ≡ cond b (mark_line mark) (refused_line r)
 gets_or_refused true mark r = refl
 gets_or_refused false mark r = refl
 
-module _ (s : Sheet) (e : Entry) {entered : Entered} (is : entered ≡ entered_of (ledger_of s) e) where
+pub refused_told : (s : Sheet) (c : Call) {r : ℕ} → refusal_of (ledger_of s) c ≡ r → (r ≡ 0 → ⊥) → refused_line r ≡ lines_on s c
+unfolding call_lines
+refused_told s c {r} is some = rw (is, ne_eqb r 0 some)
+
+module _ (s : Sheet) (e : Entry) {entered : (Result ℕ ℕ)} (is : entered ≡ entered_of (ledger_of s) e) where
   pub entered_told : (name : List ℕ) → accepted_lines (ledger_of s) (enters e) ≡ line_of name (held_after (ledger_of s) e)
       → entered_line name entered ≡ lines_on s (enters e)
   unfolding entered_of call_lines
   entered_told name accepted =
       rw (is, accepted) (holds_or_refused name (eqb (refusal_of (ledger_of s) (enters e)) 0) _ (refusal_of (ledger_of s) (enters e)))
 
-  -- by what it says, an accepted call is told from a refused one
-  pub said_holds : {k : ℕ} → entered ≡ Holds k → refusal_of (ledger_of s) (enters e) ≡ 0
+-- by what it says, an accepted call is told from a refused one
+module _ (s : Sheet) (e : Entry) where
+  pub said_holds : {k : ℕ} → Ok k ≡ entered_of (ledger_of s) e → refusal_of (ledger_of s) (enters e) ≡ 0
   unfolding entered_of
-  said_holds {k} said = go (eqb (refusal_of (ledger_of s) (enters e)) 0) refl (sym is ∙ said)
-    where
-      go : (b : Bool) → eqb (refusal_of (ledger_of s) (enters e)) 0 ≡ b
-          → cond b (Holds (length (lines_in (enter (ledger_of s) (enters e))))) (Entered-as-Refused (refusal_of (ledger_of s) (enters e))) ≡ Holds k
-          → refusal_of (ledger_of s) (enters e) ≡ 0
-      go true is-0 h = eqb-true (refusal_of (ledger_of s) (enters e)) 0 is-0
-      go false is-0 h = let z : ◌≡◌ {A = ℕ} 0 1 = cc in absurd (omega arith)
+  said_holds said = (gives-ok (refusal_of (ledger_of s) (enters e)) (length (lines_in (enter (ledger_of s) (enters e)))) (sym said)).0
 
-  pub said_refused : {r : ℕ} → entered ≡ Entered-as-Refused r → refused_line r ≡ lines_on s (enters e)
-  unfolding entered_of call_lines
-  said_refused {r} said = go (eqb (refusal_of (ledger_of s) (enters e)) 0) (sym is ∙ said)
-    where
-      go : (b : Bool)
-          → cond b (Holds (length (lines_in (enter (ledger_of s) (enters e))))) (Entered-as-Refused (refusal_of (ledger_of s) (enters e)))
-          ≡ Entered-as-Refused r
-          → refused_line r ≡ cond b (accepted_lines (ledger_of s) (enters e)) (refused_line (refusal_of (ledger_of s) (enters e)))
-      go true h = let z : ◌≡◌ {A = ℕ} 0 1 = cc in absurd (omega arith)
-      go false h = let same : r ≡ refusal_of (ledger_of s) (enters e) = cc in ap refused_line same
+  pub said_refused : {r : ℕ} → Err r ≡ entered_of (ledger_of s) e → refused_line r ≡ lines_on s (enters e)
+  unfolding entered_of
+  said_refused said =
+      let given = gives-err (refusal_of (ledger_of s) (enters e)) (length (lines_in (enter (ledger_of s) (enters e)))) (sym said) in
+      refused_told s (enters e) given.0 given.1
 
 pub accepted_told : (l : Ledger) (c : Call) → refusal_of l c ≡ 0 → accepted_lines l c ≡ call_lines l c
 unfolding call_lines
@@ -91,7 +81,7 @@ opened_told s ws {after} none same sees =
     ap₂ (λ (m n : ℕ). line "open" (m ∷ n ∷ [])) (sees.modulus ∙ ap modulus_of reads) (sees.unknowns ∙ ap unknowns_of reads)
     ∙ accepted_told (ledger_of s) (enters (opens ws)) none
 
-pub marked_told : (s : Sheet) (ws : List ℕ) {marked : Marked} → marked ≡ marked_of (ledger_of s) ws
+pub marked_told : (s : Sheet) (ws : List ℕ) {marked : (Result Mark ℕ)} → marked ≡ marked_of (ledger_of s) ws
     → marked_line marked ≡ lines_on s (queries (marks ws))
 unfolding marked_of call_lines
 marked_told s ws is =

@@ -9,21 +9,17 @@ ghost use Rattle.tape.specs.Model.Handed.{line_room, Block};
 
 use crate::text::line;
 
-// A line for each of `count` steps of n entries.
+// A line for each of `count` steps of n entries. (`chunks_exact` would ask that n is not 0.)
 fn step_lines(vectors: &[u32], count: usize, n: usize, out: &mut [u8]) -> usize
     requires { (n ≤ most_unknowns) × (count ≤ most_unknowns)
         × (count * n ≤ length vectors.now) × (line_room * count ≤ length out.old) }
     ensures value { (result ≡ length (step_lines (vectors_within count n vectors.now))) × (result ≤ line_room * count) }
     ensures out_after { out.new ≡ over (step_lines (vectors_within count n vectors.now)) out.old }
 {
-    let mut at: usize = 0;
-    let mut i: usize = 0;
-    while i < count {
+    let mut at = 0;
+    for i in 0..count {
         let start = i * n;
-        let end = start + n;
-        let written = line(b"step", &vectors[start..end], &mut out[at..]);
-        at += written;
-        i += 1;
+        at += line(b"step", &vectors[start..start + n], &mut out[at..]);
     }
     at
 }

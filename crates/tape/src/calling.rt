@@ -9,7 +9,8 @@ use crate::printing::call;
 use crate::reading::{CALL_MEMORY, first_word, take_words};
 use sheet::Sheet;
 
-// Bytes enough for the lines of any call.
+// Bytes enough for the lines of any call. `next` and `left_over` take any slice that long, which an array in its place would ask more than; so
+// do those that print for them.
 pub const CALL_ROOM: usize = 4096;
 
 // The bytes that a call's words take, and how many bytes its lines are.
@@ -36,6 +37,6 @@ pub fn next(sheet: &mut [u32; Sheet::SIZE], rest: &[u8], out: &mut [u8]) -> Step
     let written = call(sheet, pick, first.number, &taken[..count], out);
     Step {
         used: 4 * count,
-        written: written,
+        written,
     }
 }

@@ -1,6 +1,7 @@
 // Each call made on a sheet, and its lines printed to the front of a buffer.
 ghost use Rattle.std.specs.Prelude.{◌≡◌, ◌≤◌, length};
 ghost use Rattle.slices.specs.Over.{over};
+ghost use Rattle.questions.specs.Refusals.{number_of, by_number};
 ghost use Rattle.ledger.specs.Ledger.{most_equations};
 ghost use Rattle.ledger.specs.Calls.{opens, adds, strikes, answers_from_tape, marks, meaningless, misplaced, enters, queries};
 ghost use Rattle.sheet.specs.View.{held_by};
@@ -13,41 +14,42 @@ use crate::answering::block_lines;
 use crate::picking::Pick;
 use crate::text::line;
 use equations::Mark;
-use sheet::marking::Marked;
-use sheet::{Entered, Sheet};
+use questions::Refusal;
+use sheet::Sheet;
 
-pub(crate) fn refused(number: u32, out: &mut [u8]) -> usize
+pub(crate) fn refused(refusal: Refusal, out: &mut [u8]) -> usize
     requires { call_room ≤ length out.old }
-    ensures value { result ≡ length (refused_line number) }
-    ensures out_after { out.new ≡ over (refused_line number) out.old }
+    ensures value { result ≡ length (refused_line (number_of refusal)) }
+    ensures out_after { out.new ≡ over (refused_line (number_of refusal)) out.old }
 {
-    let numbers = [number];
+    let numbers = [u32::from(refusal)];
     line(b"refused", &numbers, out)
 }
 
-// The line of an add or a strike, which begins with `name` where the call is accepted.
-fn entered_line(name: &[u8], entered: Entered, out: &mut [u8]) -> usize
-    requires { (length name.now ≤ 6) × (held_by entered ≤ most_equations) × (call_room ≤ length out.old) }
-    ensures value { result ≡ length (entered_line name.now entered) }
-    ensures out_after { out.new ≡ over (entered_line name.now entered) out.old }
+// The line of an add or a strike, which begins with `name` where the call is accepted. (A `match`, here and in `marked_line`: both arms
+// write to `out`, which two closures for one common function could not both borrow.)
+fn entered_line(name: &[u8], entered: Result<usize, Refusal>, out: &mut [u8]) -> usize
+    requires { (length name.now ≤ 6) × (held_by (by_number entered) ≤ most_equations) × (call_room ≤ length out.old) }
+    ensures value { result ≡ length (entered_line name.now (by_number entered)) }
+    ensures out_after { out.new ≡ over (entered_line name.now (by_number entered)) out.old }
 {
     match entered {
-        Entered::Holds(k) => {
-            let numbers = [k as u32];
+        Ok(held) => {
+            let numbers = [held as u32];
             line(name, &numbers, out)
         }
-        Entered::Refused(r) => refused(r, out),
+        Err(refusal) => refused(refusal, out),
     }
 }
 
-fn marked_line(marked: Marked, out: &mut [u8]) -> usize
+fn marked_line(marked: Result<Mark, Refusal>, out: &mut [u8]) -> usize
     requires { call_room ≤ length out.old }
-    ensures value { result ≡ length (marked_line marked) }
-    ensures out_after { out.new ≡ over (marked_line marked) out.old }
+    ensures value { result ≡ length (marked_line (by_number marked)) }
+    ensures out_after { out.new ≡ over (marked_line (by_number marked)) out.old }
 {
     match marked {
-        Marked::Gets(mark) => mark_line(mark, out),
-        Marked::Refused(r) => refused(r, out),
+        Ok(mark) => mark_line(mark, out),
+        Err(refusal) => refused(refusal, out),
     }
 }
 
@@ -68,17 +70,18 @@ fn open(sheet: &mut [u32; Sheet::SIZE], words: &[u32], out: &mut [u8]) -> usize
     requires { call_room ≤ length out.old }
     ensures { Tells sheet.old (enters (opens words.now)) sheet.new out.old out.new result }
 {
-    let entered = Sheet::open(sheet, words);
-    match entered {
-        Entered::Holds(_) => {
+    match Sheet::open(sheet, words) {
+        Ok(_) => {
             let seen = Sheet::seen(sheet);
             let numbers = [seen.modulus, seen.unknowns as u32];
             line(b"open", &numbers, out)
         }
-        Entered::Refused(number) => refused(number, out),
+        Err(refusal) => refused(refusal, out),
     }
 }
 
+// `add`, `strike` and `mark` are two lines each: a call of the sheet, and its line. A common function would take the call as a closure, and
+// state again what the sheet's call says of its result and of the sheet.
 fn add(sheet: &mut [u32; Sheet::SIZE], words: &[u32], out: &mut [u8]) -> usize
     requires { call_room ≤ length out.old }
     ensures { Tells sheet.old (enters (adds words.now)) sheet.new out.old out.new result }
@@ -100,14 +103,14 @@ fn answer(sheet: &[u32; Sheet::SIZE], number: u32, out: &mut [u8]) -> usize
     ensures { Tells sheet.now (queries (answers_from_tape number)) sheet.now out.old out.new result }
 {
     let seen = Sheet::seen(sheet);
-    let shown = Sheet::answer_from_tape(sheet, number);
-    if shown.refused != 0 {
-        return refused(shown.refused, out);
+    match Sheet::answer_from_tape(sheet, number) {
+        Ok(block) => {
+            let len = block.len;
+            let numbers = block.numbers;
+            block_lines(block.head, &numbers[..len], seen.unknowns, out)
+        }
+        Err(refusal) => refused(refusal, out),
     }
-    let block = shown.block;
-    let len = block.len;
-    let numbers = block.numbers;
-    block_lines(block.head, &numbers[..len], seen.unknowns, out)
 }
 
 fn mark(sheet: &[u32; Sheet::SIZE], words: &[u32], out: &mut [u8]) -> usize
@@ -123,15 +126,15 @@ fn misplaced(sheet: &[u32; Sheet::SIZE], words: &[u32], out: &mut [u8]) -> usize
     requires { call_room ≤ length out.old }
     ensures { Tells sheet.now (queries (misplaced words.now)) sheet.now out.old out.new result }
 {
-    refused(17, out)
+    refused(Refusal::Top, out)
 }
 
-// A word that picks no call.
+// A word that picks no call. (Like `misplaced` but for a constant, and that is all that either has.)
 fn meaningless(sheet: &[u32; Sheet::SIZE], words: &[u32], out: &mut [u8]) -> usize
     requires { call_room ≤ length out.old }
     ensures { Tells sheet.now (queries (meaningless words.now)) sheet.now out.old out.new result }
 {
-    refused(1, out)
+    refused(Refusal::Shape, out)
 }
 
 // The call that was picked, with the number of its first word and the memory of all its words.

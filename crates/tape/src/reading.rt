@@ -5,7 +5,6 @@ ghost use Rattle.ledger.specs.Block.{longest_block};
 ghost use Rattle.tape.specs.Bytes.{words_on};
 
 use crate::bytes::words;
-use slices::lengths::smaller;
 use system::limits::BLOCK;
 use words::unpacking::{Word, first_at, front_length};
 
@@ -18,7 +17,7 @@ pub(crate) fn first_word(rest: &[u8]) -> Word
     ensures { result ≡ first_word (words_on rest.now) }
 {
     let mut memory = [0u32; 2];
-    let count = smaller(2, rest.len() / 4);
+    let count = (rest.len() / 4).min(2);
     words(rest, count, &mut memory);
     let first = first_at(&memory[..count], 0);
     first.word
@@ -30,7 +29,7 @@ pub(crate) fn take_words(rest: &[u8], wanted: usize, taken: &mut [u32]) -> usize
     ensures value { (result ≡ length (front wanted (words_on rest.now))) × (result ≤ 2 * longest_block) }
     ensures taken_after { take result taken.new ≡ front wanted (words_on rest.now) }
 {
-    let count = smaller(2 * wanted, rest.len() / 4);
+    let count = (rest.len() / 4).min(2 * wanted);
     words(rest, count, taken);
     front_length(&taken[..count], wanted)
 }

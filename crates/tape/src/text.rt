@@ -4,21 +4,21 @@ ghost use Rattle.slices.specs.Over.{over};
 ghost use Rattle.tape.specs.Text.{decimal, spaced, line_of};
 
 use residue::division::divide;
-use slices::copying::copy_bytes;
+use slices::copying::copy;
 
-const SPACE: u8 = 32;
+const SPACE: u8 = b' ';
 
-const NEWLINE: u8 = 10;
+const NEWLINE: u8 = b'\n';
 
-// The byte of a digit; 48 is that of "0".
 fn digit(x: u32) -> u8
     requires { x < 10 }
     ensures { result ≡ 48 + x }
 {
-    (48 + x) as u8
+    b'0' + x as u8
 }
 
-// A number in decimal: the number without its last digit, and that digit behind it; how many digits there are.
+// A number in decimal: the number without its last digit, and that digit behind it; how many digits there are. (std's `write!` to a
+// slice says how many bytes it took and not which stand there, and wants an answer for its error: no plainer with a writer of our own.)
 fn decimal_into(x: u32, out: &mut [u8]) -> usize
     requires { length (decimal x) ≤ length out.old }
     ensures value { result ≡ length (decimal x) }
@@ -51,12 +51,9 @@ fn numbers_into(numbers: &[u32], out: &mut [u8]) -> usize
     ensures value { (result ≡ length (spaced numbers.now)) × (result ≤ 11 * length numbers.now) }
     ensures out_after { out.new ≡ over (spaced numbers.now) out.old }
 {
-    let mut at: usize = 0;
-    let mut i: usize = 0;
-    while i < numbers.len() {
-        let written = spaced_number(numbers[i], &mut out[at..]);
-        at += written;
-        i += 1;
+    let mut at = 0;
+    for x in numbers {
+        at += spaced_number(*x, &mut out[at..]);
     }
     at
 }
@@ -68,7 +65,7 @@ pub(crate) fn line(name: &[u8], numbers: &[u32], out: &mut [u8]) -> usize
         × (result ≤ length name.now + 11 * length numbers.now + 1) }
     ensures out_after { out.new ≡ over (line_of name.now numbers.now) out.old }
 {
-    copy_bytes(name, out);
+    copy(name, out);
     let start = name.len();
     let written = numbers_into(numbers, &mut out[start..]);
     let end = start + written;

@@ -1,5 +1,6 @@
 -- Laws for the proofs of the readers.
-pub mod Places
+pub mod Entries
+pub mod Texts
 pub mod Runs
 pub mod Folded
 pub mod Made

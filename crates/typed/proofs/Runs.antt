@@ -1,75 +1,17 @@
--- The digits of a text from a place on, taken one by one: the turns of the loop in `digits_at`, on plain values.
---   Running                                  the digits from i up to j are taken, and make value
---   running_start, running_turn              before the first, and one more
---   running-digit, running_stop, running_end what the tests say, and where it ends
---   capped-number, capped-unknown            what was made is the number, unless it is too long
-use mathlib.Core.Path.{◌≡◌, refl, ap, sym, ◌∙◌}
+-- What the digits of a number or an unknown make.
+--   capped-number, capped-unknown, capped_beyond   what was made is the number, unless that is too long
+use mathlib.Core.Path.{◌≡◌, refl}
 use mathlib.Core.Bool.{Bool, true, false}
 use mathlib.Core.List.{List, [], ◌∷◌}
 use mathlib.Core.Logic.{◌⊎◌, inl, inr, ⊎_elim}
-use Prim.Native.Nat.{ℕ, ◌+◌, ◌-◌, ◌*◌, ◌≤◌, ◌<◌}
+use Prim.Native.Nat.{ℕ, ◌+◌, ◌*◌, ◌≤◌, ◌<◌}
 use native.Mathlib.Omega.{arith}
 use borrow.Author.Tests.{leb-true, ltb-false, le-ltb}
 use lib.Dec.{leb, ltb}
-use lib.ListN.{length, drop, get_or, drop_of_length-le}
+use lib.ListN.{length}
 use Rattle.grammar.specs.Grammar.{onto, decimal, are_digits}
-use Rattle.grammar.specs.Model.Reader.{is_digit, digits, behind}
-use Rattle.typed.specs.Model.Contract.{capped, capped_onto, RunOf}
+use Rattle.typed.specs.Model.Contract.{capped_onto}
 use Rattle.grammar.proofs.Tests.{both_left, both_right}
-use Rattle.typed.proofs.Places.{digits_on, behind_on, digits_end, behind_end}
-
--- ---- the loop
-
-pub record Running (s : List ℕ) (i j value : ℕ) : Type 0 where
-  pub from : i ≤ j
-  pub upto : j ≤ length s
-  pub small : value < 1000000
-  pub made : capped_onto 0 (digits (drop i s)) ≡ capped_onto value (digits (drop j s))
-  pub many : length (digits (drop i s)) ≡ (j - i) + length (digits (drop j s))
-  pub left : behind (drop i s) ≡ behind (drop j s)
-
-pub running_start : (s : List ℕ) (i : ℕ) → i ≤ length s → Running s i i 0
-running_start s i h = record {
-  from = omega arith;
-  upto = h;
-  small = omega arith;
-  made = refl;
-  many = omega arith;
-  left = refl;
-}
-
-pub digit_bounds : (c : ℕ) → is_digit c ≡ true → (48 ≤ c) × (c ≤ 57)
-digit_bounds c h = (leb-true 48 c (both_left (leb 48 c) (leb c 57) h), leb-true c 57 (both_right (leb 48 c) (leb c 57) h))
-
-module _ (s : List ℕ) (i j value : ℕ) (r : Running s i j value) where
-  pub running_turn : (x : ℕ) → j < length s → is_digit (get_or s j 0) ≡ true → x ≡ capped value (get_or s j 0 - 48) → x < 1000000
-      → Running s i (j + 1) x
-  running_turn x h d e b = record {
-    from = omega (arith, r.from);
-    upto = omega arith;
-    small = b;
-    made = r.made ∙ rw (digits_on s j h d, e);
-    many = omega (arith, r.from, r.many, ap length (digits_on s j h d));
-    left = r.left ∙ behind_on s j h d;
-  }
-
-  -- where no digit is left
-  stopped : digits (drop j s) ≡ [] → behind (drop j s) ≡ drop j s → RunOf s i (record { value = value; count = j - i })
-  stopped none same =
-      let e : i + (j - i) ≡ j = omega (arith, r.from) in record {
-        value = sym (r.made ∙ rw none);
-        count = omega (arith, r.many, ap length none);
-        inside = omega (arith, r.from, r.upto);
-        left = rw e (sym (r.left ∙ same));
-      }
-
-  pub running_stop : j < length s → is_digit (get_or s j 0) ≡ false → RunOf s i (record { value = value; count = j - i })
-  running_stop h d = stopped (digits_end s j h d) (behind_end s j h d)
-
-  pub running_end : length s ≤ j → RunOf s i (record { value = value; count = j - i })
-  running_end h = stopped (rw (drop_of_length-le s h)) (rw (drop_of_length-le s h))
-
--- ---- what was made
 
 digit : (d : ℕ) (ds : List ℕ) → are_digits (d ∷ ds) ≡ true → d ≤ 9
 digit d ds a = leb-true d 9 (both_left (leb d 9) (are_digits ds) a)

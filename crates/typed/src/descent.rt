@@ -1,210 +1,138 @@
-// Readers of an expression, a term and a factor that call each other. They build no tree: each gives the linear form at once.
-ghost use Rattle.std.specs.Prelude.{◌≡◌, false, ◌≤◌, ◌<◌, length, drop};
+// Readers of an expression, a term and a factor that call each other. They build no tree: each gives the linear form at once, and
+// the text behind what it read, or `None` where what is looked for does not stand in front.
+// No struct holds text and m: each call has another text, so each would make one, `term(Reader { text: rest, m })`, no plainer.
+ghost use Rattle.std.specs.Prelude.{◌≡◌, ℕ, ◌<◌};
 ghost use Rattle.grammar.specs.Grammar.{largest_unknown};
 ghost use Rattle.grammar.specs.Model.Reader.{number_in, unknown_in, closed};
 ghost use Rattle.typed.specs.Model.Forms.{forms};
-ghost use Rattle.typed.specs.Model.Contract.{Gives, Onwards, Expression, Sums, Term, Products, Factor};
+ghost use Rattle.typed.specs.Model.Contract.{reading, Onwards, Expression, Sums, Term, Products, Factor};
 
 use crate::forms::{Form, joined, multiplied, number_form, unknown_form, zero};
-use crate::scan::{digits_at, is_sign, past_sign, past_spaces, peek};
-
-// What a reader gives: whether something was read, where it ends, and its form.
-#[derive(Clone, Copy)]
-pub struct Taken {
-    pub good: bool,
-    pub at: usize,
-    pub form: Form,
-}
-
-// What is looked for does not stand at i.
-fn bad(i: usize) -> Taken
-    ensures { (result.good ≡ false) × (result.at ≡ i) }
-{
-    let form = zero();
-    Taken {
-        good: false,
-        at: i,
-        form: form,
-    }
-}
+use crate::scan::{digits_of, is_sign, past_sign, past_spaces, peek};
 
 // "Numbers have 1 to 5 decimal digits, zeros in front allowed".
-fn number(text: &[u8], i: usize, m: u32) -> Taken
-    requires { (i ≤ length text.now) × (0 < m) }
-    ensures onwards { Onwards text.now i result }
-    ensures gives { Gives text.now (number_in (forms m largest_unknown) (drop i text.now)) result }
+fn number(text: &[u8], m: u32) -> Option<(Form, &[u8])>
+    requires { 0 < m }
+    ensures onwards { Onwards text.now result }
+    ensures value { reading result ≡ number_in (forms m largest_unknown) text.now }
 {
-    let d = digits_at(text, i);
+    let d = digits_of(text);
     if d.count < 1 {
-        return bad(i);
+        return None;
     }
     if 5 < d.count {
-        return bad(i);
+        return None;
     }
-    let j = past_spaces(text, i + d.count);
-    Taken {
-        good: true,
-        at: j,
-        form: number_form(d.value, m),
-    }
+    Some((number_form(d.value, m), past_spaces(d.rest)))
 }
 
-// What stands behind an x: "unknowns are x1 to x16, without them", which is without zeros in front.
-fn unknown(text: &[u8], i: usize, m: u32) -> Taken
-    requires { (i ≤ length text.now) × (0 < m) }
-    ensures onwards { Onwards text.now i result }
-    ensures gives { Gives text.now (unknown_in (forms m largest_unknown) (drop i text.now)) result }
+// What stands behind an x: "unknowns are x1 to x16, without them", which is without zeros in front. With `number` it shares the calls of
+// `digits_of` and `past_spaces` alone: that one asks how many digits there are, and this one what they make.
+fn unknown(text: &[u8]) -> Option<(Form, &[u8])>
+    ensures onwards { Onwards text.now result }
+    ensures value { (m : ℕ) → reading result ≡ unknown_in (forms m largest_unknown) text.now }
 {
-    if peek(text, i) == b'0' {
-        return bad(i);
+    if peek(text) == b'0' {
+        return None;
     }
-    let d = digits_at(text, i);
+    let d = digits_of(text);
     if d.value < 1 {
-        return bad(i);
+        return None;
     }
     if 16 < d.value {
-        return bad(i);
+        return None;
     }
-    let j = past_spaces(text, i + d.count);
-    Taken {
-        good: true,
-        at: j,
-        form: unknown_form((d.value - 1) as usize),
-    }
+    Some((unknown_form(d.value), past_spaces(d.rest)))
 }
 
-// What a closing bracket behind t leaves.
-fn close(text: &[u8], t: Taken, m: u32) -> Taken
-    requires { t.at ≤ length text.now }
-    ensures onwards { Onwards text.now t.at result }
-    ensures gives { Gives text.now (closed (forms m largest_unknown) t.form (drop t.at text.now)) result }
+// The form of a bracketed expression, where the bracket closes.
+fn close(form: Form, text: &[u8]) -> Option<(Form, &[u8])>
+    ensures onwards { Onwards text.now result }
+    ensures value { (m : ℕ) → reading result ≡ closed (forms m largest_unknown) form text.now }
 {
-    let i = t.at;
-    if peek(text, i) != b')' {
-        return bad(i);
+    if peek(text) != b')' {
+        return None;
     }
-    let j = past_sign(text, i);
-    let form = t.form;
-    Taken {
-        good: true,
-        at: j,
-        form: form,
-    }
+    Some((form, past_sign(text)))
 }
 
 // A term, and what follows it.
 #[cycle(expression_factor_products_sums_term)]
-pub(crate) fn expression(text: &[u8], i: usize, m: u32) -> Taken
-    requires { (i ≤ length text.now) × (0 < m) }
-    ensures onwards { Onwards text.now i result }
-    ensures expression { Expression text.now m i result }
+pub(crate) fn expression(text: &[u8], m: u32) -> Option<(Form, &[u8])>
+    requires { 0 < m }
+    ensures onwards { Onwards text.now result }
+    ensures expression { Expression text.now m result }
 {
-    let t = term(text, i, m);
-    if !t.good {
-        return t;
-    }
-    let at = t.at;
-    let form = t.form;
-    sums(text, at, form, m)
+    let (a, rest) = term(text, m)?;
+    sums(a, rest, m)
 }
 
-// What follows the expression a: a sign and a term, any number of times.
+// What follows the expression a: a sign and a term, any number of times. Here and in `products` a `while` counts nothing: each reader lends
+// what is left. The loop stands by itself, so that its forms take no stack in `expression`, which brackets call again and again.
+// `expression` with `sums` and `term` with `products` are two pairs and not one with closures for the reader, the test and the joining: its
+// contract would say for which texts the reader may be called, so that the measure falls, and what it gives there, and so be longer than both.
+#[inline(never)]
 #[cycle(expression_factor_products_sums_term)]
-fn sums(text: &[u8], i: usize, a: Form, m: u32) -> Taken
-    requires { (i ≤ length text.now) × (0 < m) }
-    ensures onwards { Onwards text.now i result }
-    ensures sums { Sums text.now m i a result }
+fn sums(mut a: Form, text: &[u8], m: u32) -> Option<(Form, &[u8])>
+    requires { 0 < m }
+    ensures onwards { Onwards text.now result }
+    ensures sums { Sums text.now m a result }
 {
-    let sign = peek(text, i);
-    if !is_sign(sign) {
-        return Taken {
-            good: true,
-            at: i,
-            form: a,
-        };
+    let mut rest = text;
+    while is_sign(peek(rest)) {
+        let sign = peek(rest);
+        let (b, behind) = term(past_sign(rest), m)?;
+        a = joined(sign, &a, &b, m);
+        rest = behind;
     }
-    let j = past_sign(text, i);
-    let t = term(text, j, m);
-    if !t.good {
-        return t;
-    }
-    let at = t.at;
-    let b = t.form;
-    sums(text, at, joined(sign, a, b, m), m)
+    Some((a, rest))
 }
 
 // A factor, and what follows it.
 #[cycle(expression_factor_products_sums_term)]
-fn term(text: &[u8], i: usize, m: u32) -> Taken
-    requires { (i ≤ length text.now) × (0 < m) }
-    ensures onwards { Onwards text.now i result }
-    ensures term { Term text.now m i result }
+fn term(text: &[u8], m: u32) -> Option<(Form, &[u8])>
+    requires { 0 < m }
+    ensures onwards { Onwards text.now result }
+    ensures term { Term text.now m result }
 {
-    let t = factor(text, i, m);
-    if !t.good {
-        return t;
-    }
-    let at = t.at;
-    let form = t.form;
-    products(text, at, form, m)
+    let (a, rest) = factor(text, m)?;
+    products(a, rest, m)
 }
 
 // What follows the term a: a star and a factor, any number of times.
+#[inline(never)]
 #[cycle(expression_factor_products_sums_term)]
-fn products(text: &[u8], i: usize, a: Form, m: u32) -> Taken
-    requires { (i ≤ length text.now) × (0 < m) }
-    ensures onwards { Onwards text.now i result }
-    ensures products { Products text.now m i a result }
+fn products(mut a: Form, text: &[u8], m: u32) -> Option<(Form, &[u8])>
+    requires { 0 < m }
+    ensures onwards { Onwards text.now result }
+    ensures products { Products text.now m a result }
 {
-    if peek(text, i) != b'*' {
-        return Taken {
-            good: true,
-            at: i,
-            form: a,
-        };
+    let mut rest = text;
+    while peek(rest) == b'*' {
+        let (b, behind) = factor(past_sign(rest), m)?;
+        a = multiplied(&a, &b, m);
+        rest = behind;
     }
-    let j = past_sign(text, i);
-    let t = factor(text, j, m);
-    if !t.good {
-        return t;
-    }
-    let at = t.at;
-    let b = t.form;
-    products(text, at, multiplied(a, b, m), m)
+    Some((a, rest))
 }
 
 // A bracketed expression, a minus before a factor, which is 0 less that factor, an unknown, or a number.
 #[cycle(expression_factor_products_sums_term)]
-fn factor(text: &[u8], i: usize, m: u32) -> Taken
-    requires { (i ≤ length text.now) × (0 < m) }
-    ensures onwards { Onwards text.now i result }
-    ensures factor { Factor text.now m i result }
+fn factor(text: &[u8], m: u32) -> Option<(Form, &[u8])>
+    requires { 0 < m }
+    ensures onwards { Onwards text.now result }
+    ensures factor { Factor text.now m result }
 {
-    let c = peek(text, i);
-    if c == b'(' {
-        let j = past_sign(text, i);
-        let t = expression(text, j, m);
-        if !t.good {
-            return t;
+    match text {
+        [b'(', rest @ ..] => {
+            let (form, rest) = expression(past_spaces(rest), m)?;
+            close(form, rest)
         }
-        return close(text, t, m);
-    }
-    if c == b'-' {
-        let j = past_sign(text, i);
-        let t = factor(text, j, m);
-        if !t.good {
-            return t;
+        [b'-', rest @ ..] => {
+            let (form, rest) = factor(past_spaces(rest), m)?;
+            Some((joined(b'-', &zero(), &form, m), rest))
         }
-        let at = t.at;
-        let a = t.form;
-        return Taken {
-            good: true,
-            at: at,
-            form: joined(b'-', zero(), a, m),
-        };
+        [b'x', rest @ ..] => unknown(rest),
+        _ => number(text, m),
     }
-    if c == b'x' {
-        return unknown(text, i + 1, m);
-    }
-    number(text, i, m)
 }

@@ -1,55 +1,61 @@
-// Bytes, spaces and digits of a text.
-ghost use Rattle.std.specs.Prelude.{◌≡◌, ◌-◌, ◌≤◌, ◌<◌, length, drop};
+// Bytes, spaces and digits in front of a text.
+ghost use Rattle.std.specs.Prelude.{◌≡◌, ◌-◌, ◌≤◌, ◌<◌, length};
 ghost use Rattle.grammar.specs.Model.Reader.{next, tail, skip, is_digit, is_sign};
 ghost use Rattle.typed.specs.Model.Contract.{capped, RunOf};
 
-// The byte at a place, 0 past the end.
-pub(crate) fn peek(text: &[u8], i: usize) -> u8
-    ensures { result ≡ next (drop i text.now) }
+// The first byte, 0 where there is none.
+pub(crate) fn peek(text: &[u8]) -> u8
+    ensures { result ≡ next text.now }
 {
-    if i < text.len() { text[i] } else { 0 }
-}
-
-// The first place from i on at which no space stands.
-pub(crate) fn past_spaces(text: &[u8], i: usize) -> usize
-    requires { i ≤ length text.now }
-    ensures lower_bound { (i ≤ result) × (result ≤ length text.now) }
-    ensures text_value { drop result text.now ≡ skip (drop i text.now) }
-{
-    let mut j = i;
-    while j < text.len() && text[j] == b' ' {
-        j += 1;
+    match text {
+        [first, ..] => *first,
+        [] => 0,
     }
-    j
 }
 
-// The first place behind the byte at i and the spaces that follow it.
-pub(crate) fn past_sign(text: &[u8], i: usize) -> usize
-    requires { i < length text.now }
-    ensures lower_bound { (i < result) × (result ≤ length text.now) }
-    ensures text_value { drop result text.now ≡ skip (tail (drop i text.now)) }
+// What stands behind the spaces in front. `while let` has it at hand at each turn, and counts nothing: `take_while` and `count` would count the
+// spaces, to cut the text there.
+pub(crate) fn past_spaces(text: &[u8]) -> &[u8]
+    ensures left { length result.now ≤ length text.now }
+    ensures text_value { result.now ≡ skip text.now }
 {
-    past_spaces(text, i + 1)
+    let mut rest = text;
+    while let [b' ', after @ ..] = rest {
+        rest = after;
+    }
+    rest
+}
+
+// What stands behind the first byte and the spaces that follow it.
+pub(crate) fn past_sign(text: &[u8]) -> &[u8]
+    ensures left { length result.now ≤ length text.now - 1 }
+    ensures text_value { result.now ≡ skip (tail text.now) }
+{
+    match text {
+        [_, rest @ ..] => past_spaces(rest),
+        [] => text,
+    }
 }
 
 // Whether a byte is `+` or `-`.
 pub(crate) fn is_sign(c: u8) -> bool
     ensures { result ≡ is_sign c }
 {
-    c == b'+' || c == b'-'
+    matches!(c, b'+' | b'-')
 }
 
-// The digits from i on: what they make, but no more than six digits' worth, and how many they are.
+// The digits in front: what they make, but no more than six digits' worth, how many they are, and what stands behind them.
 #[derive(Clone, Copy)]
-pub struct Run {
+pub struct Run<'a> {
     pub value: u32,
     pub count: usize,
+    pub rest: &'a [u8],
 }
 
 fn is_digit(c: u8) -> bool
     ensures { result ≡ is_digit c }
 {
-    if c < 48 { false } else { c <= 57 }
+    matches!(c, b'0'..=b'9')
 }
 
 // One digit more, unless there are too many already.
@@ -58,31 +64,29 @@ fn appended(value: u32, c: u8) -> u32
     ensures { (result ≡ capped value (c - 48)) × (result < 1000000) }
 {
     if value < 100000 {
-        value * 10 + (c - 48) as u32
+        value * 10 + u32::from(c - b'0')
     } else {
         value
     }
 }
 
-pub(crate) fn digits_at(text: &[u8], i: usize) -> Run
-    requires { i ≤ length text.now }
-    ensures { RunOf text.now i result }
+pub(crate) fn digits_of(text: &[u8]) -> Run<'_>
+    ensures { RunOf text.now result }
 {
-    let mut j = i;
-    let mut value: u32 = 0;
-    while j < text.len() {
-        let c = text[j];
+    let mut value = 0;
+    for (count, &c) in text.iter().enumerate() {
         if !is_digit(c) {
             return Run {
-                value: value,
-                count: j - i,
+                value,
+                count,
+                rest: &text[count..],
             };
         }
         value = appended(value, c);
-        j += 1;
     }
     Run {
-        value: value,
-        count: j - i,
+        value,
+        count: text.len(),
+        rest: &text[text.len()..],
     }
 }

@@ -3,8 +3,7 @@
 --   kinds_head, kinds_pair      the first and the rest; two
 --   kinds_last                  a run and one kind behind it
 --   kinds_cut                   only so many need be seen as are asked for, and one more
---   run, run_none               whether kinds are all the same one; none at all are
---   run_on, run_stop            one kind more is looked at: it is that one, or it is not
+--   run, run_each               whether kinds are all the same one: each of them is it
 use mathlib.Core.Path.{◌≡◌, refl, sym, ap, subst, ◌∙◌}
 use mathlib.Core.List.{List, [], ◌∷◌, ◌++◌}
 use mathlib.Core.Bool.{Bool, true, false, ◌&&◌, and-true, and-false, and_assoc}
@@ -12,10 +11,10 @@ use Prim.Native.Nat.{ℕ, zero, suc, ◌+◌, ◌<◌}
 use native.Mathlib.Numerals.{add-one}
 use native.Mathlib.Nat.{suc_inj}
 use native.Mathlib.Omega.{arith}
-use borrow.Author.Tests.{eq-eqb, ne_eqb}
 use lib.ListN.{length, take, drop, get_or, replicate, length-replicate}
-use lib.Seq.{take-length, take-suc, drop-cons, length-take-le}
+use lib.Seq.{take-length, take-suc, length-take-le}
 use lib.Dec.{T, eqb}
+use Rattle.equations.specs.Lists.{every}
 use Rattle.equations.specs.Vectors.{same_vector}
 use Rattle.equations.proofs.Lists.{eq_of_same}
 
@@ -69,15 +68,6 @@ kinds_cut (suc c) (x ∷ xs) (k ∷ ks) h = ap (λ (b : Bool). eqb x k && b) (ki
 abbrev pub run : ℕ → List ℕ → Bool
 run k xs = same_vector xs (replicate (length xs) k)
 
-pub run_none : (k : ℕ) → run k [] ≡ true
-run_none k = refl
-
-module _ (k : ℕ) (xs : List ℕ) (i : ℕ) (at : i < length xs) where
-  next : run k (drop i xs) ≡ (eqb (get_or xs i 0) k && run k (drop (suc i) xs))
-  next = ap (run k) (drop-cons xs i 0 at)
-
-  pub run_on : get_or xs i 0 ≡ k → run k (drop i xs) ≡ run k (drop (i + 1) xs)
-  run_on h = next ∙ rw (add-one, eq-eqb (get_or xs i 0) k h)
-
-  pub run_stop : (get_or xs i 0 ≡ k → ⊥) → run k (drop i xs) ≡ false
-  run_stop h = next ∙ rw (ne_eqb (get_or xs i 0) k h)
+pub run_each : (k : ℕ) (xs : List ℕ) → run k xs ≡ every (λ (x : ℕ). eqb x k) xs
+run_each k [] = refl
+run_each k (x ∷ xs) = ap (λ (b : Bool). eqb x k && b) (run_each k xs)

@@ -1,5 +1,4 @@
 -- Words with a minus sign.
---   plain_kind                        a kind without a sign stands in its own place
 --   number_read, turned, turned-fits  a number of 32 bits as one of 64, and its negative there
 --   residues-count, residues-below    there are as many residues as words, and they are below m
 --   residues_of_lem                       and they are those of the words' whole numbers
@@ -10,7 +9,6 @@ use mathlib.Core.List.{List, [], ◌∷◌, map}
 use Prim.Native.Nat.{ℕ, zero, suc, ◌<◌, ◌≤◌}
 use native.Mathlib.Nat.{le_refl, mod-eq_of_lt}
 use native.Mathlib.Omega.{arith}
-use borrow.Author.Tests.{ne_eqb}
 use lib.IntN.{ℤ, pos, neg_ℤ, ◌-ℤ◌, +ℤ_idl}
 use lib.ListN.{length}
 use lib.Signed.{mag}
@@ -21,11 +19,8 @@ use Rattle.residue.specs.Residue.{residue_of}
 use Rattle.residue.proofs.Residue.{residue_below}
 use Rattle.equations.specs.Vectors.{Below}
 use Rattle.words.specs.declared.unpacking.Word.{Word}
-use Rattle.words.specs.Signs.{has_minus, without_minus, whole_of, wholes_of, residues_of}
+use Rattle.words.specs.Signs.{has_minus, whole_of, wholes_of, residues_of}
 use Rattle.words.proofs.Words.{residue_in, parts_count}
-
-pub plain_kind : (k : ℕ) → (k ≡ 10 → ⊥) → (k ≡ 11 → ⊥) → k ≡ without_minus k
-plain_kind k not-10 not-11 = rw (ne_eqb k 10 not-10, ne_eqb k 11 not-11)
 
 -- ---- the negative
 

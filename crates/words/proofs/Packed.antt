@@ -3,12 +3,12 @@
 --   length-small, length_large   how many memory words it takes,
 --   length_kind                  whatever the kind
 --   length_two, written_two      two for each number at most
+--   written_sum                  what each takes, summed up
 --   written_one                  one for each where all are below 2 ^ 28
 --   written_kind                 as many whatever the kind
 --   words_of_append              the words of two lists of numbers
 --   words_on_lem, words_length_on    one number more
 --   words_parted, words_end      how much memory that is; all of them
---   one-over, two_over           a number written to the front of memory
 --   words_back_then, words_back  what is read back
 --   front_back                   and how much memory it takes, whatever lies behind it
 use mathlib.Core.Path.{◌≡◌, refl, sym, ap, ap₂, ◌∙◌}
@@ -17,11 +17,12 @@ use mathlib.Core.Bool.{Bool, true, false, false≢true}
 use Prim.Native.Nat.{ℕ, suc, ◌+◌, ◌*◌, ◌/◌, ◌%◌, ◌<◌, ◌≤◌}
 use native.Mathlib.Numerals.{add-one}
 use native.Mathlib.Omega.{arith}
-use lib.ListN.{length, take, drop, get_or, set, length-append, take-append-drop}
+use lib.ListN.{length, take, drop, get_or, length-append, take-append-drop}
 use lib.Seq.{take-suc, take_all, drop-cons, drop_at}
 use lib.Dec.{ltb}
 use borrow.Author.Tests.{eq-eqb, le-leb, ltb-true, ltb-false, lt-ltb}
-use Rattle.slices.specs.Over.{over}
+use Rattle.std.specs.List.{sum}
+use Rattle.std.proofs.lemmas.List.Sums.{sum_by-cons}
 use Rattle.equations.specs.Vectors.{Below}
 use Rattle.words.specs.declared.unpacking.Word.{Word}
 use Rattle.words.specs.Words.{numbers_of_a_kind, word_of, word, top_kind, takes_top, carries, words_in, words_for, words_of}
@@ -74,6 +75,12 @@ pub written_two : (k : ℕ) (xs : List ℕ) → length (words_of k xs) ≤ 2 * l
 written_two k [] = omega arith
 written_two k (x ∷ xs) = omega (arith, length-cons k x xs, length_two k x, written_two k xs)
 
+pub written_sum : (k : ℕ) (xs : List ℕ) → sum (map (λ (x : ℕ). length (words_for k x)) xs) ≡ length (words_of k xs)
+written_sum k [] = refl
+written_sum k (x ∷ xs) =
+    let lengths = map (λ (y : ℕ). length (words_for k y)) xs in
+    omega (arith, length-cons k x xs, written_sum k xs, sum_by-cons (λ y. y) (length (words_for k x)) lengths)
+
 pub written_one : (k : ℕ) (xs : List ℕ) → Below numbers_of_a_kind xs → length (words_of k xs) ≡ length xs
 written_one k [] h = refl
 written_one k (x ∷ xs) h =
@@ -116,20 +123,6 @@ module _ (xs : List ℕ) (i : ℕ) (at : i < length xs) where
 
 pub words_end : (xs : List ℕ) (i k : ℕ) → length xs ≤ i → words_of k (take i xs) ≡ words_of k xs
 words_end xs i k h = ap (words_of k) (take_all i xs h)
-
--- ---- a number written
-
-module _ (k x : ℕ) where
-  pub one-over : ltb x numbers_of_a_kind ≡ true → (old : List ℕ) {w : ℕ} → 1 ≤ length old → w ≡ word k x
-      → set old 0 w ≡ over (words_for k x) old
-  one-over h [] room is = absurd (omega arith)
-  one-over h (y ∷ old) room is = rw (words_small k x h) (ap (λ (w : ℕ). w ∷ old) is)
-
-  pub two_over : ltb x numbers_of_a_kind ≡ false → (old : List ℕ) {w v : ℕ} → 2 ≤ length old → w ≡ word top_kind (x / numbers_of_a_kind)
-      → v ≡ word k (x % numbers_of_a_kind) → set (set old 0 w) 1 v ≡ over (words_for k x) old
-  two_over h [] room is low = absurd (omega arith)
-  two_over h (y ∷ []) room is low = absurd (omega arith)
-  two_over h (y ∷ z ∷ old) room is low = rw (words_large k x h) (ap₂ (λ (w v : ℕ). w ∷ v ∷ old) is low)
 
 -- ---- read back
 

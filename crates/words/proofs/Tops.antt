@@ -1,7 +1,8 @@
 -- Words that take one memory word or two.
 --   carries-number                        the number of a word of kind 13 that is part of another has 4 bits
---   takes_none, carries_other, ..         how the tests come out
+--   carries_other                         a memory word of another kind carries no top
 --   words_pair, words_single, words_one   the words, by what the first two memory words are
+--   none_there                            where there is no memory there are no words
 --   along                                 induction along the words that lie in memory
 --   words_other                           a first memory word of another kind is a word by itself
 --   first_pair, first_single, first-last  how much memory the first word takes
@@ -10,14 +11,14 @@
 --   taken_other, taken_last, taken_single, taken_pair   the first word from a place on
 use mathlib.Core.Path.{◌≡◌, refl, sym, ap, ◌∙◌}
 use mathlib.Core.List.{List, [], ◌∷◌}
-use mathlib.Core.Bool.{Bool, true, false, ◌&&◌, and-false}
+use mathlib.Core.Bool.{Bool, true, false, ◌&&◌}
 use Prim.Native.Nat.{ℕ, suc, ◌+◌, ◌<◌, ◌≤◌}
 use native.Mathlib.Numerals.{add-one}
 use native.Mathlib.Omega.{arith}
 use lib.ListN.{length, drop, get_or, drop_of_length-le}
 use lib.Seq.{drop-cons}
 use lib.Dec.{eqb, leb}
-use borrow.Author.Tests.{eq-eqb, ne_eqb, le-leb, lt-leb, leb-true}
+use borrow.Author.Tests.{ne_eqb, leb-true}
 use Rattle.words.specs.declared.unpacking.Word.{Word}
 use Rattle.words.specs.Words.{top_kind, takes_top, carries, word_of, joined, words_in}
 use Rattle.words.specs.Fronts.{first_of, first_word, first_length}
@@ -36,30 +37,10 @@ carries-number w v h =
     leb-true (word_of w).number 15
     (third (eqb (word_of w).kind top_kind) (leb 1 (word_of w).number) (leb (word_of w).number 15) (takes_top (word_of v).kind) h)
 
-pub takes_none : (k : ℕ) → (k ≡ 1 → ⊥) → (k ≡ 3 → ⊥) → (k ≡ 4 → ⊥) → (k ≡ 6 → ⊥) → (k ≡ 7 → ⊥) → (k ≡ 10 → ⊥) → (k ≡ 11 → ⊥)
-    → (k ≡ 12 → ⊥) → takes_top k ≡ false
-takes_none k a b c d e f g h =
-    rw (ne_eqb k 1 a, ne_eqb k 3 b, ne_eqb k 4 c, ne_eqb k 6 d, ne_eqb k 7 e, ne_eqb k 10 f, ne_eqb k 11 g, ne_eqb k 12 h) refl
-
 module _ (w v : ℕ) where
   pub carries_other : ((word_of w).kind ≡ top_kind → ⊥) → carries w v ≡ false
   unfolding carries
   carries_other h = rw (ne_eqb (word_of w).kind top_kind h) refl
-
-  pub carries-zero : (word_of w).number < 1 → carries w v ≡ false
-  unfolding carries
-  carries-zero h = rw (lt-leb 1 (word_of w).number h, and-false (eqb (word_of w).kind top_kind)) refl
-
-  pub carries_large : 15 < (word_of w).number → carries w v ≡ false
-  unfolding carries
-  carries_large h =
-      rw (lt-leb (word_of w).number 15 h, and-false (eqb (word_of w).kind top_kind && leb 1 (word_of w).number)) refl
-
-  pub carries-all : (word_of w).kind ≡ top_kind → 1 ≤ (word_of w).number → (word_of w).number ≤ 15
-      → carries w v ≡ takes_top (word_of v).kind
-  unfolding carries
-  carries-all h g f =
-      rw (eq-eqb (word_of w).kind top_kind h, le-leb 1 (word_of w).number g, le-leb (word_of w).number 15 f) refl
 
 -- ---- one memory word or two
 
@@ -95,6 +76,10 @@ module _ (P : List ℕ → Type 0) (none : P []) (last : (w : ℕ) → P (w ∷ 
 pub words_none : words_in [] ≡ []
 unfolding words_in
 words_none = refl
+
+pub none_there : (ws : List ℕ) → length ws ≡ 0 → words_in ws ≡ []
+none_there [] h = words_none
+none_there (w ∷ ws) h = absurd (omega arith)
 
 pub words_one : (w : ℕ) → words_in (w ∷ []) ≡ word_of w ∷ []
 unfolding words_in

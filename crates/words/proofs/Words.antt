@@ -3,10 +3,9 @@
 --   parts_count                      there are as many of one part as words
 --   numbers_below                    a word's number has 32 bits
 --   word_kind, word_number           a word has the kind and the number that it was made of
---   words_fewer                      there are no more words than memory words
-use mathlib.Core.Path.{◌≡◌, sym, ap, subst}
+use mathlib.Core.Path.{◌≡◌, sym, subst}
 use mathlib.Core.List.{List, map}
-use Prim.Native.Nat.{ℕ, ◌<◌, ◌≤◌}
+use Prim.Native.Nat.{ℕ, ◌<◌}
 use native.Mathlib.Omega.{arith}
 use lib.ListN.{length, length-map}
 use Rattle.residue.specs.Residue.{residue_of}
@@ -42,13 +41,6 @@ numbers_below =
     (λ w. subst Below32 (sym (words_one w)) (omega arith, tt))
     (λ w v ws h p. subst Below32 (sym (words_pair w v ws h)) (omega (arith, carries-number w v h), p))
     (λ w v ws h p. subst Below32 (sym (words_single w v ws h)) (omega arith, p))
-
-pub words_fewer : (ws : List ℕ) → length (words_in ws) ≤ length ws
-words_fewer =
-    along (λ (ws : List ℕ). length (words_in ws) ≤ length ws) (omega (arith, ap length words_none))
-    (λ w. omega (arith, ap length (words_one w)))
-    (λ w v ws h p. omega (arith, ap length (words_pair w v ws h), p))
-    (λ w v ws h p. omega (arith, ap length (words_single w v ws h), p))
 
 pub word_kind : (k x : ℕ) → x < numbers_of_a_kind → (word_of (word k x)).kind ≡ k
 word_kind k x h = omega arith

@@ -26,3 +26,7 @@ wholes_of words = map whole_of words
 -- "Any number of 28 bits is allowed and is brought to its residue"
 abbrev pub residues_of : ℕ → List Word → List ℕ
 residues_of m words = map (λ (w : Word). residue_of m (whole_of w)) words
+
+-- a word without its sign, its number that residue
+abbrev pub plain_of : ℕ → Word → Word
+plain_of m w = record { kind = without_minus w.kind; number = residue_of m (whole_of w) }

@@ -2,19 +2,19 @@
 ghost use Rattle.std.specs.Prelude.{◌≡◌, ◌<◌, min, length, take};
 ghost use Rattle.slices.specs.Over.{over};
 ghost use Rattle.words.specs.Words.{words_in};
-ghost use Rattle.words.specs.Signs.{has_minus, without_minus, whole_of, plain_kinds_of, residues_of};
+ghost use Rattle.words.specs.Signs.{has_minus, without_minus, whole_of, plain_of, plain_kinds_of, residues_of};
 
 use crate::kinds::{COEFFICIENT, MINUS_COEFFICIENT, MINUS_RIGHT, RIGHT};
-use crate::unpacking::{Word, first_at};
+use crate::unpacking::{Word, read_into};
 use residue::modular::residue;
 
 fn has_minus(kind: u32) -> bool
     ensures { result ≡ has_minus kind }
 {
-    (kind == MINUS_COEFFICIENT) | (kind == MINUS_RIGHT)
+    matches!(kind, MINUS_COEFFICIENT | MINUS_RIGHT)
 }
 
-// The kind in whose place a kind may stand.
+// The kind in whose place a kind may stand. No `From`: a kind is a number.
 fn without_minus(kind: u32) -> u32
     ensures { result ≡ without_minus kind }
 {
@@ -29,7 +29,7 @@ fn without_minus(kind: u32) -> u32
 fn whole(word: Word) -> i64
     ensures { result ≡ whole_of word }
 {
-    let number = word.number as i64;
+    let number = i64::from(word.number);
     if has_minus(word.kind) {
         -number
     } else {
@@ -37,7 +37,19 @@ fn whole(word: Word) -> i64
     }
 }
 
-// The kinds without their signs and the residues of the words that lie in memory, as many as there is room for; how many they are.
+// A word without its sign, its number the residue.
+fn plain(word: Word, m: u32) -> Word
+    requires { 0 < m }
+    ensures { result ≡ plain_of m word }
+{
+    Word {
+        kind: without_minus(word.kind),
+        number: residue(whole(word), m),
+    }
+}
+
+// The kinds without their signs and the residues of the words that lie in memory, as many as there is room for; how many they are. Two
+// slices, as in `unpack_into`: callers hand kinds and residues on apart.
 pub fn residues_into(memory: &[u32], m: u32, kinds: &mut [u32], residues: &mut [u32]) -> usize
     requires { (length kinds.old ≡ length residues.old) × (0 < m) }
     ensures value { result ≡ min (length kinds.old) (length (words_in memory.now)) }
@@ -46,17 +58,5 @@ pub fn residues_into(memory: &[u32], m: u32, kinds: &mut [u32], residues: &mut [
     ensures residues_after { residues.new
         ≡ over (take (length kinds.old) (residues_of m (words_in memory.now))) residues.old }
 {
-    let mut at: usize = 0;
-    let mut i: usize = 0;
-    while i < kinds.len() {
-        if at >= memory.len() {
-            return i;
-        }
-        let first = first_at(memory, at);
-        kinds[i] = without_minus(first.word.kind);
-        residues[i] = residue(whole(first.word), m);
-        at += first.length;
-        i += 1;
-    }
-    i
+    read_into(memory, kinds, residues, |word| plain(word, m))
 }

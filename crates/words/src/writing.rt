@@ -15,30 +15,23 @@ pub fn word(kind: u32, number: u32) -> u32
 }
 
 // How many memory words a number takes.
+#[tactic(auto, unfolding(crate::specs::Words::words_for))]
 fn length_for(number: u32) -> usize
     ensures { (kind : ℕ) → result ≡ length (words_for kind number) }
 {
-    if number < NUMBERS {
-        return 1;
-    }
-    2
+    if number < NUMBERS { 1 } else { 2 }
 }
 
 // How many memory words these numbers take.
 pub fn written_length(numbers: &[u32]) -> usize
     ensures { (kind : ℕ) → result ≡ length (words_of kind numbers.now) }
 {
-    let mut needed: usize = 0;
-    let mut place: usize = 0;
-    while place < numbers.len() {
-        needed += length_for(numbers[place]);
-        place += 1;
-    }
-    needed
+    numbers.iter().map(|number| length_for(*number)).sum()
 }
 
 // A word of this kind with this number, at the front of out; how many memory words it takes. A number of 32 bits comes apart into its top and
 // the rest as a word does into its kind and its number.
+#[tactic(auto, unfolding(crate::specs::Words::words_for))]
 fn write_one(kind: u32, number: u32, out: &mut [u32]) -> usize
     requires { (kind < 16) × (length (words_for kind number) ≤ length out.old) }
     ensures value { result ≡ length (words_for kind number) }
@@ -61,11 +54,9 @@ pub fn write(kind: u32, numbers: &[u32], out: &mut [u32]) -> usize
     ensures out_after { out.new ≡ over (words_of kind numbers.now) out.old }
 {
     let mut at: usize = 0;
-    let mut i: usize = 0;
-    while i < numbers.len() {
-        let written = write_one(kind, numbers[i], &mut out[at..]);
+    for number in numbers {
+        let written = write_one(kind, *number, &mut out[at..]);
         at += written;
-        i += 1;
     }
     at
 }

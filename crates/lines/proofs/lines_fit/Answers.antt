@@ -8,5 +8,5 @@ use Rattle.lines.proofs.lines_fit.Goals as goal
 pub returns-then-all_are : goal.returns-then-all_are
 returns-then-all_are c =
     let a = c.args in
-    sym (all_plain a.m a.moduli.now (equations_of a.n a.numbers.now) c.requires.0
-    (of_true (sym c.all_are.ensures ∙ c.if-all_are.true)))
+    c.if-all_are.true
+    ∙ sym (all_plain a.m a.moduli.now (equations_of a.n a.numbers.now) c.requires.0 (of_true (sym c.all_are.ensures ∙ c.if-all_are.true)))

@@ -1,5 +1,4 @@
--- `multiply_into` meets its contract. The invariant: the first i products are written, and behind them `out` is as it was. The measure is
--- what is left.
+-- `multiply_into` meets its contract: one product more.
 use mathlib.Core.Path.{sym}
 use mathlib.Core.List.{map}
 use Prim.Native.Nat.{ℕ, ◌*◌}

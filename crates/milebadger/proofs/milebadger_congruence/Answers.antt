@@ -5,41 +5,40 @@ use lib.IntN.{ℤ}
 use mir.Facts.{to_z-of_z}
 use mir.Syntax.{w32}
 use mir.Val.{SFits, to_z, of_z}
-use Rattle.congruence.specs.declared.Solved.{Solved}
+use Rattle.std.specs.Prelude.{Option, Result}
+use Rattle.residue.specs.declared.congruence.Solutions.{Solutions}
 use Rattle.congruence.specs.Congruence.{congruence_of}
 use Rattle.milebadger.specs.Calls.{solved_reply}
 use Rattle.milebadger.proofs.Reply.{replied_on, gives_nothing, refuses_replied}
 use Rattle.milebadger.proofs.milebadger_congruence.Goals as goal
 
 -- a number of 32 bits is handed on as it is
-handed : (a b : ℤ) (m : ℕ) {solved : Solved} → SFits w32 a → SFits w32 b
+handed : (a b : ℤ) (m : ℕ) {solved : Result (Option Solutions) ℕ} → SFits w32 a → SFits w32 b
     → solved ≡ congruence_of (to_z w32 (of_z w32 a)) (to_z w32 (of_z w32 b)) m → solved ≡ congruence_of a b m
 handed a b m left right is =
     is ∙ ap₂ (λ (x y : ℤ). congruence_of x y m) (to_z-of_z {w = w32} left) (to_z-of_z {w = w32} right)
 
--- the refusal
-pub returns-in-Refused : goal.returns-in-Refused
-unfolding solved_reply
-returns-in-Refused c =
-    let p = c.args in
-    let solved = handed p.a p.b p.m c.ranges.a c.ranges.b c.solve-solved.ensures in
-    rw (← solved, c.in-Refused.is)
-    (replied_on c.refuse.type_inv (refuses_replied c.refuse.ensures))
-
 -- no solution
-pub returns-in-NoSolution : goal.returns-in-NoSolution
+pub returns-in-Ok-None : goal.returns-in-Ok-None
 unfolding solved_reply
-returns-in-NoSolution c =
+returns-in-Ok-None c =
     let p = c.args in
-    let solved = handed p.a p.b p.m c.ranges.a c.ranges.b c.solve-solved.ensures in
-    rw (← solved, c.in-NoSolution.is) gives_nothing
+    let solved = handed p.a p.b p.m c.ranges.a c.ranges.b (rw c.in-Ok-None.field-0-is at c.in-Ok-None.ensures) in
+    rw (← solved) gives_nothing
 
 -- the solutions
-pub returns-in-Solutions : goal.returns-in-Solutions
+pub returns-in-Ok-Some : goal.returns-in-Ok-Some
 unfolding solved_reply
-returns-in-Solutions c =
+returns-in-Ok-Some c =
     let given = c.give in
     let p = c.args in
-    let solved = handed p.a p.b p.m c.ranges.a c.ranges.b c.solve-solved.ensures in
-    rw (← solved, c.in-Solutions.is)
-    (replied_on given.type_inv given.ensures)
+    let solved = handed p.a p.b p.m c.ranges.a c.ranges.b (rw c.in-Ok-Some.field-0-is at c.in-Ok-Some.ensures) in
+    rw (← solved) (replied_on given.type_inv given.ensures)
+
+-- the refusal
+pub returns-in-Err : goal.returns-in-Err
+unfolding solved_reply
+returns-in-Err c =
+    let p = c.args in
+    let solved = handed p.a p.b p.m c.ranges.a c.ranges.b c.in-Err.ensures in
+    rw (← solved) (replied_on c.refuse.type_inv (refuses_replied c.refuse.ensures))

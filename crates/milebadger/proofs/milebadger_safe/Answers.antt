@@ -11,29 +11,32 @@ use Rattle.milebadger.proofs.milebadger_safe.Goals as goal
 pub overflow_cast-result : goal.overflow_cast-result
 overflow_cast-result c =
     let p = c.args in
-    let few = words_few p.m p.rows p.columns p.values.now p.out.now c.in-Wrote.words (sym c.in-Wrote.ensures.value) in
+    let value = rw c.in-Ok-Some.field-0-is at c.in-Ok-Some.ensures.value in
+    let few = words_few p.m p.rows p.columns p.values.now p.out.now c.in-Ok-Some.words (sym value) in
     record { sfits = omega arith }
 
 -- the turns
-pub returns-in-Wrote : goal.returns-in-Wrote
+pub returns-in-Ok-Some : goal.returns-in-Ok-Some
 unfolding turned_result
-returns-in-Wrote c =
+returns-in-Ok-Some c =
     let p = c.args in
-    let k = c.in-Wrote.words in
-    let solved = c.in-Wrote.ensures in
-    let few = words_few p.m p.rows p.columns p.values.now p.out.now k (sym solved.value) in
-    record { value = to_z_pos w64 k (omega arith) ∙ rw (← solved.value); out_after = solved.out_after }
+    let k = c.in-Ok-Some.words in
+    let solved = c.in-Ok-Some.ensures in
+    let value = rw c.in-Ok-Some.field-0-is at solved.value in
+    let few = words_few p.m p.rows p.columns p.values.now p.out.now k (sym value) in
+    record { value = to_z_pos w64 k (omega arith) ∙ rw (← value); out_after = solved.out_after }
 
 -- none
-pub returns-in-NoTurns : goal.returns-in-NoTurns
+pub returns-in-Ok-None : goal.returns-in-Ok-None
 unfolding turned_result
-returns-in-NoTurns c =
-    let solved = c.solve-turned.ensures in
-    record { value = rw (← solved.value, c.in-NoTurns.is); out_after = solved.out_after }
+returns-in-Ok-None c =
+    let solved = c.in-Ok-None.ensures in
+    let value = rw c.in-Ok-None.field-0-is at solved.value in
+    record { value = rw (← value); out_after = solved.out_after }
 
 -- the refusal
-pub returns-in-Refused : goal.returns-in-Refused
+pub returns-in-Err : goal.returns-in-Err
 unfolding turned_result
-returns-in-Refused c =
-    let solved = c.solve-turned.ensures in
-    record { value = handed_on c.refuse.type_inv c.refuse.ensures ∙ rw (← solved.value, c.in-Refused.is); out_after = solved.out_after }
+returns-in-Err c =
+    let solved = c.in-Err.ensures in
+    record { value = handed_on c.refuse.type_inv c.refuse.ensures ∙ rw (← solved.value); out_after = solved.out_after }

@@ -8,7 +8,7 @@ use lib.ListN.{length}
 use Rattle.questions.specs.Reply.{refuses}
 use Rattle.tape.specs.Output.{most_bytes, lines}
 use Rattle.milebadger.specs.Calls.{block_reply, tape_reply}
-use Rattle.milebadger.proofs.Reply.{gives-short, gives-written, refuses_replied, replied_on}
+use Rattle.milebadger.proofs.Reply.{short_replied, gives-written, refuses_replied, replied_on}
 use Rattle.milebadger.proofs.milebadger_tape.Goals as goal
 
 too_long : (bytes : List ℕ) → most_bytes < length bytes → tape_reply bytes ≡ refuses 10
@@ -31,7 +31,7 @@ returns-then-out-size c =
     let a = c.args in
     let tape = a.tape.now in
     rw (told tape (omega arith))
-    (gives-short (length (lines tape)) (lines tape) a.out.now (omega (arith, c.count-size.ensures)))
+    (replied_on c.refuse-then-out-size.type_inv (short_replied (length (lines tape)) (lines tape) a.out.now (omega (arith, c.count-size.ensures)) c.refuse-then-out-size.ensures))
 
 -- they do
 pub returns : goal.returns

@@ -23,6 +23,6 @@ loop-count-preserved g c =
     let l = c.loop-count in
     let room = length l.tape - l.count in
     let within = l.invariant.1 in
-    let part = slice_range-put_mid l.count room c.in-Ok.more l.tape c.read.new.buf within c.in-Ok.ensures.bound.0 in
-    let joined = take_split l.count (l.count + c.in-Ok.more) l.tape (put_mid l.count room l.tape c.read.new.buf) (omega arith) (take-put_mid_below _ _ _ _ _ (le_refl _) within) in
-    (search rules, search rules, subst (Consumes _ _) (ap (λ bytes. take l.count l.tape ++ bytes) (sym part) ∙ joined) (Consumes-trans _ _ _ _ _ l.invariant.2 c.in-Ok.ensures.bytes.0))
+    let part = slice_range-put_mid l.count room c.in_ok-more.more l.tape c.read.new.buf within c.in_ok-more.ensures.bound.0 in
+    let joined = take_split l.count (l.count + c.in_ok-more.more) l.tape (put_mid l.count room l.tape c.read.new.buf) (omega arith) (take-put_mid_below _ _ _ _ _ (le_refl _) within) in
+    (search rules, search rules, subst (Consumes _ _) (ap (λ bytes. take l.count l.tape ++ bytes) (sym part) ∙ joined) (Consumes-trans _ _ _ _ _ l.invariant.2 c.in_ok-more.ensures.bytes.0))

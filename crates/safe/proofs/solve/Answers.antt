@@ -1,17 +1,18 @@
 -- `solve` meets its contract: `refusal` asks the questions. Where none turns the safe away, it has left the numbers of all values,
 -- and `turns_into` makes the reply.
 use mathlib.Core.List.{List}
-use mathlib.Core.Path.{◌≡◌, sym, subst, ◌∙◌}
+use mathlib.Core.Path.{◌≡◌, refl, sym, ap, subst, ◌∙◌}
 use Prim.Native.Nat.{ℕ, ◌*◌, ◌≤◌}
 use native.Mathlib.Omega.{arith}
 use lib.ListN.{length, take}
-use lib.Seq.{length-take-le}
 use Rattle.slices.specs.Over.{over}
 use Rattle.questions.specs.Questions.{first_no}
+use Rattle.questions.specs.Refusals.{by_number}
+use Rattle.questions.proofs.Ladder.{number_not, handed_on}
 use Rattle.words.specs.Words.{words_in, numbers_of}
 use Rattle.words.proofs.Words.{number_of, parts_count}
 use Rattle.words.proofs.Unpacked.{parts_seen}
-use Rattle.safe.specs.declared.Turned.{Turned}
+use Rattle.safe.specs.Turned.{Turned}
 use Rattle.safe.specs.Turns.{turns_of}
 use Rattle.safe.specs.Calls.{most_locks, argument_questions, found, turns_reply, turned_of, buffer_after}
 use Rattle.safe.specs.Model.Handed.{values_room, Lockable, Gives}
@@ -45,42 +46,24 @@ module _ (m rows columns : ℕ) (values : List ℕ) {number : ℕ} (is : number 
         let_in m rows columns values buffer number is none
         (subst (λ (ns : List ℕ). Gives (found (turns_of m rows columns ns)) buffer r new) all_seen (given lockable.count))
 
-pub returns-then-number-ne0 : goal.returns-then-number-ne0
+pub returns-in_err-refusal : goal.returns-in_err-refusal
 unfolding turned_of buffer_after
-returns-then-number-ne0 c =
-    let asked = c.refusal-number in
+returns-in_err-refusal c =
     let p = c.args in
-    let both = refused p.m p.rows p.columns p.values.now p.out.now asked.result asked.ensures.value c.if-number-ne0.true in record { value = both.0; out_after = both.1 }
-
-pub overflow_mul-n : goal.overflow_mul-n
-overflow_mul-n c =
-    let asked = c.refusal-number in
-    let p = c.args in
-    omega (arith, few p.m p.rows p.columns p.values.now asked.ensures.value c.if-number-ne0.false)
-
-pub slice_bounds-numbers-end : goal.slice_bounds-numbers-end
-slice_bounds-numbers-end c =
-    let asked = c.refusal-number in
-    let p = c.args in
-    omega (arith, few p.m p.rows p.columns p.values.now asked.ensures.value c.if-number-ne0.false)
-
-pub slice_bounds-turns_into-end : goal.slice_bounds-turns_into-end
-slice_bounds-turns_into-end c =
-    let asked = c.refusal-number in
-    let p = c.args in
-    sym (length-take-le (p.rows * p.columns) asked.new.numbers
-    (omega (arith, few p.m p.rows p.columns p.values.now asked.ensures.value c.if-number-ne0.false)))
+    let out = c.from_residual in
+    let refusal = c.in_err-refusal.field-0.0 in
+    let both = refused p.m p.rows p.columns p.values.now p.out.now _ c.in_err-refusal.ensures.value (number_not refusal) in
+    record { value = ap by_number (handed_on out.result refusal out.ensures.1) ∙ both.0; out_after = both.1 }
 
 pub turns_into-requires : goal.turns_into-requires
 turns_into-requires c =
-    let asked = c.refusal-number in
+    let asked = c.in_ok-refusal in
     let p = c.args in
-    (p.rows, lockable p.m p.rows p.columns p.values.now asked.ensures.value c.if-number-ne0.false _ asked.ensures.numbers_after)
+    (p.rows, lockable p.m p.rows p.columns p.values.now asked.ensures.value refl _ asked.ensures.numbers_after)
 
 pub returns : goal.returns
 unfolding turned_of buffer_after
 returns c =
-    let asked = c.refusal-number in
+    let asked = c.in_ok-refusal in
     let p = c.args in
-    let none = c.if-number-ne0.false in
-    let both = replied p.m p.rows p.columns p.values.now asked.ensures.value none _ asked.ensures.numbers_after p.out.now (c.turns_into.ensures p.rows) in record { value = both.0; out_after = both.1 }
+    let both = replied p.m p.rows p.columns p.values.now asked.ensures.value refl _ asked.ensures.numbers_after p.out.now (c.turns_into.ensures p.rows) in record { value = both.0; out_after = both.1 }

@@ -1,11 +1,10 @@
 -- What the code's functions hand on to one another. Definitions only.
-use Rattle.std.specs.Prelude.{List, ◌≡◌, ℕ, ◌+◌, ◌*◌, ◌<◌, ◌≤◌, length, take}
+use Rattle.std.specs.Prelude.{List, ◌≡◌, ℕ, ◌+◌, ◌*◌, ◌<◌, ◌≤◌, length, take, Err}
 use Rattle.std.proofs.Math.Option.{Option, none, some}
 use Rattle.questions.specs.Questions.{largest_modulus}
 use Rattle.questions.specs.Reply.{Reply, result_of, memory_after}
 use Rattle.equations.specs.Vectors.{Below}
-use Rattle.safe.specs.declared.Turned.{Turned}
-use Rattle.safe.specs.declared.Turned.TheVariants.{Refused}
+use Rattle.safe.specs.Turned.{Turned}
 use Rattle.safe.specs.Calls.{most_locks}
 
 -- so many words of the values are seen: one more than locks, which shows that there are too many
@@ -29,4 +28,4 @@ Found n (some turns) head numbers = (0 < head) × (take n numbers ≡ turns)
 
 -- a result, and what the buffer holds then, are those of a reply
 abbrev pub Gives : Reply Turned → List ℕ → Turned → List ℕ → Type 0
-Gives reply old r new = (r ≡ result_of Refused reply old) × (new ≡ memory_after reply old)
+Gives reply old r new = (r ≡ result_of Err reply old) × (new ≡ memory_after reply old)

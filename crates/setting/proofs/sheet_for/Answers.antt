@@ -1,15 +1,18 @@
 -- `sheet_for` meets its contract: `refusal` asks the questions. Where none turns the claim away, it has left the claim's numbers, and `make` makes
 -- the reply.
-use mathlib.Core.Path.{◌≡◌, refl, sym, subst, ◌∙◌}
+use mathlib.Core.Path.{◌≡◌, refl, sym, ap, subst, ◌∙◌}
 use mathlib.Core.Bool.{true}
 use mathlib.Core.List.{List, []}
 use Prim.Native.Nat.{ℕ, ◌+◌, ◌-◌, ◌*◌, ◌≤◌}
 use native.Mathlib.Nat.{mul-le-mul}
 use native.Mathlib.Omega.{arith}
 use lib.ListN.{take, drop, get_or, replicate}
+use Rattle.std.specs.Prelude.{Result, Err}
 use Rattle.slices.specs.Over.{over}
 use Rattle.questions.specs.Questions.{first_no}
 use Rattle.questions.specs.Reply.{Gives}
+use Rattle.questions.specs.Refusals.{by_number}
+use Rattle.questions.proofs.Ladder.{number_not, handed_on}
 use Rattle.questions.proofs.Reply.{gives_refused, gives_let_in}
 use Rattle.system.specs.Claims.{claim_of}
 use Rattle.system.specs.Wanted.{wanted_of}
@@ -20,8 +23,6 @@ use Rattle.ledger.specs.Shapes.{entries_of}
 use Rattle.asking.specs.declared.Seen.{Seen}
 use Rattle.asking.specs.Sees.{Sees, claim_room}
 use Rattle.asking.proofs.ClaimGiven.{mark_end, entries_are, mark-claimed}
-use Rattle.setting.specs.declared.Made.{Made}
-use Rattle.setting.specs.declared.Made.TheVariants.{Refused}
 use Rattle.setting.specs.Calls.{setting_questions, made, equations_for, made_reply, made_of, sheet_after}
 use Rattle.setting.specs.Promises.{LetIn}
 use Rattle.setting.specs.Model.Handed.{Wantable}
@@ -65,67 +66,35 @@ module _ (m n : ℕ) (ws : List ℕ) {number : ℕ} (is : number ≡ first_no (s
         mark-claimed (opened m n []) ws (let_in_marked m n ws entered []) (let_in_open m n ws entered).3 old seen (sees m n) (get_or numbers 0 0) refl;
   }
 
-  replied : (buffer : List ℕ) {r : Made} {new : List ℕ}
-      → Gives Refused (made n (wanted_of m n (claim_of n (take (get_or numbers 0 0 * n + 1 - 1) (drop 1 numbers))))) buffer r new
-      → Gives Refused (made_reply m n ws) buffer r new
+  replied : (buffer : List ℕ) {r : (Result ℕ ℕ)} {new : List ℕ}
+      → Gives Err (made n (wanted_of m n (claim_of n (take (get_or numbers 0 0 * n + 1 - 1) (drop 1 numbers))))) buffer r new
+      → Gives Err (made_reply m n ws) buffer r new
   unfolding made_reply
   replied buffer {r} {new} given =
-      gives_let_in Refused buffer (setting_questions m n ws) is (made n (equations_for m n ws)) none
-      (subst (λ (xs : List ℕ). Gives Refused (made n (wanted_of m n (claim_of n xs))) buffer r new) entries given)
+      gives_let_in Err buffer (setting_questions m n ws) is (made n (equations_for m n ws)) none
+      (subst (λ (xs : List ℕ). Gives Err (made n (wanted_of m n (claim_of n xs))) buffer r new) entries given)
 
-pub returns-then-number-ne0 : goal.returns-then-number-ne0
+pub returns-in_err-refusal : goal.returns-in_err-refusal
 unfolding made_of sheet_after made_reply
-returns-then-number-ne0 c =
+returns-in_err-refusal c =
     let a = c.args in
     let ws = a.claim.now in
-    let both = gives_refused Refused a.out.now (setting_questions a.m a.n ws) c.refusal-number.ensures.value
-    (made a.n (equations_for a.m a.n ws)) c.if-number-ne0.true in record { value = both.0; out_after = both.1 }
-
-pub overflow_cast-end : goal.overflow_cast-end
-overflow_cast-end c =
-    let a = c.args in
-    let asked = c.refusal-number in
-    let seen = asked.ensures.numbers_after c.if-number-ne0.false in
-    omega (
-      arith,
-      end a.m a.n a.claim.now asked.ensures.value c.if-number-ne0.false (replicate claim_room 0) seen,
-      head a.m a.n a.claim.now asked.ensures.value c.if-number-ne0.false (replicate claim_room 0) seen,
-    )
-
-pub overflow_mul-end : goal.overflow_mul-end
-overflow_mul-end c =
-    let a = c.args in
-    let asked = c.refusal-number in
-    omega (arith, end a.m a.n a.claim.now asked.ensures.value c.if-number-ne0.false (replicate claim_room 0) (asked.ensures.numbers_after c.if-number-ne0.false))
-
-pub overflow_add-end : goal.overflow_add-end
-overflow_add-end c =
-    let a = c.args in
-    let asked = c.refusal-number in
-    omega (arith, end a.m a.n a.claim.now asked.ensures.value c.if-number-ne0.false (replicate claim_room 0) (asked.ensures.numbers_after c.if-number-ne0.false))
-
-pub slice_bounds-make-end : goal.slice_bounds-make-end
-slice_bounds-make-end c =
-    let a = c.args in
-    let asked = c.refusal-number in
-    omega (
-      arith,
-      end a.m a.n a.claim.now asked.ensures.value c.if-number-ne0.false (replicate claim_room 0) (asked.ensures.numbers_after c.if-number-ne0.false),
-      asked.auto.numbers,
-    )
+    let out = c.from_residual in
+    let refusal = c.in_err-refusal.field-0.0 in
+    let both = gives_refused Err a.out.now (setting_questions a.m a.n ws) c.in_err-refusal.ensures.value (made a.n (equations_for a.m a.n ws))
+    (number_not refusal) in
+    record { value = ap by_number (handed_on out.result refusal out.ensures.1) ∙ both.0; out_after = both.1 }
 
 pub make-requires : goal.make-requires
 make-requires c =
     let a = c.args in
-    let asked = c.refusal-number in
-    let none = c.if-number-ne0.false in
-    wantable a.m a.n a.claim.now asked.ensures.value none (replicate claim_room 0) (asked.ensures.numbers_after none)
+    let asked = c.in_ok-refusal in
+    wantable a.m a.n a.claim.now asked.ensures.value refl (replicate claim_room 0) asked.ensures.numbers_after
 
 pub returns : goal.returns
 unfolding made_of sheet_after
 returns c =
     let a = c.args in
-    let asked = c.refusal-number in
-    let none = c.if-number-ne0.false in
-    let both = replied a.m a.n a.claim.now asked.ensures.value none (replicate claim_room 0) (asked.ensures.numbers_after none) a.out.now
+    let asked = c.in_ok-refusal in
+    let both = replied a.m a.n a.claim.now asked.ensures.value refl (replicate claim_room 0) asked.ensures.numbers_after a.out.now
     c.make.ensures in record { value = both.0; out_after = both.1 }

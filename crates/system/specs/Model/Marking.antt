@@ -1,6 +1,6 @@
 -- How a claim is marked, in two parts, what is kept of the equations from one claim to the next, and what is found where a start breaks one.
 -- Definitions only.
-use Rattle.std.specs.Prelude.{◌≡◌, Bool, true, cond, ◌&&◌, not, List, [], ℕ, ◌+◌, ◌<◌, T, eqb, length, take, get_or}
+use Rattle.std.specs.Prelude.{◌≡◌, Bool, true, cond, ◌&&◌, not, List, [], Option, Some, None, ℕ, zero, suc, ◌+◌, ◌<◌, T, eqb, length, take, get_or}
 use Rattle.equations.specs.declared.Reason.{Reason}
 use Rattle.equations.specs.declared.Reason.TheVariants.{Unsolvable, Breaks}
 use Rattle.equations.specs.Lists.{every}
@@ -13,11 +13,17 @@ use Rattle.elimination.specs.Tableau.{tableau}
 use Rattle.elimination.specs.Multipliers.{multipliers_of}
 use Rattle.elimination.specs.Marking.{agree}
 use Rattle.tableau.specs.Packed.{triangle}
+use Rattle.system.specs.declared.checking.Change.{Change}
 use Rattle.system.specs.Model.Reading.{rows_in, Readable}
 
 -- room for the packed rows of 17 columns
 abbrev pub basis_room : ℕ
 basis_room = 153
+
+-- a step with a line, which count from 1, where 0 stands for none
+abbrev pub changed : ℕ → ℕ → Option Change
+changed zero line = None
+changed (suc i) line = Some (record { step = suc i; line = line })
 
 -- all that the claim describes solves the equations
 abbrev pub claim_solves : ℕ → List Equation → Claim → Bool

@@ -1,6 +1,6 @@
 -- What is read off a basis B of equations in n unknowns mod m. The unknowns stand in reverse order in it, so that
 -- column i belongs to the place n - 1 - i. Definitions only.
-use Rattle.std.specs.Prelude.{◌≡◌, cond, ℕ, zero, suc, ◌+◌, ◌-◌, ◌*◌, ◌/◌, ◌<◌, ◌≤◌, length, replicate, eqb}
+use Rattle.std.specs.Prelude.{◌≡◌, cond, ℕ, zero, suc, ◌+◌, ◌-◌, ◌*◌, ◌/◌, ◌<◌, ◌≤◌, length, replicate, eqb, Option as Optional, Some, None}
 use mathlib.Core.List.{List, [], ◌∷◌, flatten}
 use Rattle.std.proofs.Math.Option.{Option, none, some}
 use Rattle.slices.specs.Over.{over}
@@ -52,3 +52,8 @@ pub record Laid (n : ℕ) (vs : List (List ℕ)) (old s : List ℕ) (r : ℕ) : 
   pub count : r ≡ length vs
   pub size : length (flatten vs) ≡ r * n
   pub written : s ≡ over (flatten vs) old
+
+-- the vectors of the answer are written to the front of s, which held `old`, and r is their number, if there is a solution
+abbrev pub Solved : ℕ → ℕ → List Equation → List ℕ → List ℕ → Optional ℕ → Type 0
+Solved m n es old s None = Laid n (answer_vectors m n es) old s 0
+Solved m n es old s (Some r) = (0 < r) × (r ≤ n + 1) × Laid n (answer_vectors m n es) old s r

@@ -1,14 +1,11 @@
 -- Room for a line, a block that can be printed, the line of what a call on a sheet says, and a call told. Definitions only.
-use Rattle.std.specs.Prelude.{◌≡◌, List, [], ◌∷◌, ℕ, ◌*◌, ◌≤◌, ◌<◌, length}
+use Rattle.std.specs.Prelude.{◌≡◌, List, [], ◌∷◌, ℕ, ◌*◌, ◌≤◌, ◌<◌, length, Result, Ok, Err}
 use Rattle.slices.specs.Over.{over}
 use Rattle.ledger.specs.Ledger.{most_unknowns}
 use Rattle.ledger.specs.Shapes.{largest_head}
 use Rattle.ledger.specs.Block.{longest_block}
 use Rattle.ledger.specs.Calls.{Call}
-use Rattle.sheet.specs.declared.Entered.{Entered}
-use Rattle.sheet.specs.declared.Entered.TheVariants.{Holds, Refused as Entered-as-Refused}
-use Rattle.sheet.specs.declared.marking.Marked.{Marked}
-use Rattle.sheet.specs.declared.marking.Marked.TheVariants.{Gets, Refused as Marked-as-Refused}
+use Rattle.equations.specs.declared.Mark.{Mark}
 use Rattle.sheet.specs.Record.{Sheet}
 use Rattle.sheet.specs.History.{left}
 use Rattle.tape.specs.Text.{line_of}
@@ -27,14 +24,14 @@ pub record Block (n head : ℕ) (numbers : List ℕ) : Type 0 where
   pub vectors : head * n ≤ length numbers
 
 -- the line of what an add or a strike says
-abbrev pub entered_line : List ℕ → Entered → List ℕ
-entered_line name (Holds k) = line_of name (k ∷ [])
-entered_line name (Entered-as-Refused r) = refused_line r
+abbrev pub entered_line : List ℕ → Result ℕ ℕ → List ℕ
+entered_line name (Ok k) = line_of name (k ∷ [])
+entered_line name (Err r) = refused_line r
 
 -- the line of what a mark says
-abbrev pub marked_line : Marked → List ℕ
-marked_line (Gets mark) = mark_line mark
-marked_line (Marked-as-Refused r) = refused_line r
+abbrev pub marked_line : Result Mark ℕ → List ℕ
+marked_line (Ok mark) = mark_line mark
+marked_line (Err r) = refused_line r
 
 -- a call told: the sheet that it left, how many bytes its lines are, and the lines at the front of a buffer
 pub record Tells (s : Sheet) (c : Call) (after : Sheet) (old new : List ℕ) (written : ℕ) : Type 0 where

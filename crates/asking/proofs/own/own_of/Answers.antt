@@ -3,7 +3,7 @@ use mathlib.Core.Path.{sym, ap, ◌∙◌}
 use mathlib.Core.Bool.{cond}
 use Prim.Native.Nat.{ℕ}
 use native.Mathlib.Omega.{arith}
-use borrow.Author.Tests.{eq-eqb, ne_eqb}
+use borrow.Author.Tests.{eq-eqb}
 use Rattle.questions.specs.Questions.{allowed_own}
 use Rattle.words.specs.Words.{own_modulus_kind}
 use Rattle.words.specs.Fronts.{first_word}
@@ -17,16 +17,6 @@ returns-then-words-eq0 c =
     let m = c.args.m in
     let is = c.plain.ensures in
     let own = own_plain m c.args.words.now (own_nothing c.args.words.now c.if-words-eq0.true) in record { allowed_value = is.0 ∙ ap (allowed_own m) own.0; modulus_value = is.1 ∙ either_so c.plain.result.allowed own.0; behind_value = (is.2 ∙ own.1, omega (arith, is.2)) }
-
-pub returns-then-word-ne-OWN_MODULUS : goal.returns-then-word-ne-OWN_MODULUS
-returns-then-word-ne-OWN_MODULUS c =
-    let m = c.args.m in
-    let ws = c.args.words.now in
-    let is = c.plain-then-word-ne-OWN_MODULUS.ensures in
-    let other =
-    ne_eqb (first_word ws).kind own_modulus_kind
-    (λ e. c.if-word-ne-OWN_MODULUS.true (ap kind_of c.first_at-first.ensures.word_value ∙ e)) in
-    let own = own_plain m ws (own_by_first ws (omega arith) ∙ other) in record { allowed_value = is.0 ∙ ap (allowed_own m) own.0; modulus_value = is.1 ∙ either_so c.plain-then-word-ne-OWN_MODULUS.result.allowed own.0; behind_value = (is.2 ∙ own.1, omega (arith, is.2)) }
 
 pub returns : goal.returns
 returns c =

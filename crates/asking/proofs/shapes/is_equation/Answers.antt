@@ -4,7 +4,6 @@ use mathlib.Core.List.{[], ◌∷◌, ◌++◌}
 use native.Mathlib.Omega.{arith}
 use borrow.Author.Tests.{not-true, not-false}
 use lib.ListN.{replicate}
-use lib.Seq.{length-take-le}
 use Rattle.words.specs.Words.{coefficient_kind, right_kind}
 use Rattle.words.proofs.Compared.{kinds_other, kinds_last}
 use Rattle.ledger.proofs.Shapes.{equation_kinds}
@@ -15,11 +14,6 @@ returns-then-kinds-n c =
     let a = c.args in
     sym (kinds_other a.kinds.now (replicate a.n coefficient_kind ++ (right_kind ∷ []))
     (λ e. c.if-kinds-n.true (e ∙ equation_kinds a.n)))
-
-pub slice_bounds-run_of-end : goal.slice_bounds-run_of-end
-slice_bounds-run_of-end c =
-    let a = c.args in
-    sym (length-take-le a.n a.kinds.now (omega arith))
 
 pub returns-then-not-run_of : goal.returns-then-not-run_of
 returns-then-not-run_of c =

@@ -7,18 +7,15 @@ use Rattle.milebadger.specs.Calls.{reasoned_result}
 use Rattle.milebadger.proofs.Signed.{handed_on}
 use Rattle.milebadger.proofs.reasoning.places_missing.Goals as goal
 
-pub returns-in-Gets : goal.returns-in-Gets
+pub returns-in-Ok : goal.returns-in-Ok
 unfolding reasoned_result
-returns-in-Gets c =
+returns-in-Ok c =
     let a = c.args in
-    let mark = c.mark-marked in
-    let accepted = mark-accepted (ledger_of a.sheet.now) a.words.now (sym mark.ensures ∙ c.in-Gets.is) in
-    rw accepted
+    handed_on c.refuse.type_inv c.refuse.ensures ∙ rw (mark-accepted (ledger_of a.sheet.now) a.words.now (sym c.in-Ok.ensures))
 
-pub returns-in-Refused : goal.returns-in-Refused
+pub returns-in-Err : goal.returns-in-Err
 unfolding reasoned_result
-returns-in-Refused c =
+returns-in-Err c =
     let a = c.args in
-    let mark = c.mark-marked in
-    let refused = mark_refused (ledger_of a.sheet.now) a.words.now (sym mark.ensures ∙ c.in-Refused.is) in
-    handed_on c.refuse.type_inv c.refuse.ensures ∙ rw (refused.0, ne_eqb _ 0 refused.1)
+    let refused = mark_refused (ledger_of a.sheet.now) a.words.now (sym c.in-Err.ensures) in
+    handed_on c.refuse-in-Err.type_inv c.refuse-in-Err.ensures ∙ rw (refused.0, ne_eqb _ 0 refused.1)

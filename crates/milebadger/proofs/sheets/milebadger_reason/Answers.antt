@@ -17,22 +17,19 @@ returns-then-at-lt-PLACES c =
 pub give_reason-requires : goal.give_reason-requires
 give_reason-requires c =
     let a = c.args in
-    let said = c.reason-reasoned.ensures in
-    (omega (arith, c.if-at-lt-PLACES.false), words_few a.sheet.now a.words.now a.out.now (sym said.value ∙ c.in-Gives.is))
+    (omega (arith, c.if-at-lt-PLACES.false), words_few a.sheet.now a.words.now a.out.now (sym c.in-Ok.ensures.value))
 
-pub returns-in-Gives : goal.returns-in-Gives
-returns-in-Gives c =
+pub returns-in-Ok : goal.returns-in-Ok
+returns-in-Ok c =
     let a = c.args in
-    let said = c.reason-reasoned.ensures in
+    let said = c.in-Ok.ensures in
     let give = c.give_reason in
-    let told = reason_told (ledger_of a.sheet.now) a.words.now a.at.now a.out.now (omega (arith, c.if-at-lt-PLACES.false))
-    (sym said.value ∙ c.in-Gives.is) in
+    let told = reason_told (ledger_of a.sheet.now) a.words.now a.at.now a.out.now (omega (arith, c.if-at-lt-PLACES.false)) (sym said.value) in
     record { value = handed_on give.type_inv give.ensures.value ∙ told.0; at_after = give.ensures.at_after ∙ told.1.0; out_after = said.buffer_after ∙ told.1.1 }
 
-pub returns-in-Refused : goal.returns-in-Refused
-returns-in-Refused c =
+pub returns-in-Err : goal.returns-in-Err
+returns-in-Err c =
     let a = c.args in
-    let said = c.reason-reasoned.ensures in
-    let turned = reason-turned (ledger_of a.sheet.now) a.words.now a.at.now a.out.now (omega (arith, c.if-at-lt-PLACES.false))
-    (sym said.value ∙ c.in-Refused.is) in
+    let said = c.in-Err.ensures in
+    let turned = reason-turned (ledger_of a.sheet.now) a.words.now a.at.now a.out.now (omega (arith, c.if-at-lt-PLACES.false)) (sym said.value) in
     record { value = handed_on c.refuse.type_inv c.refuse.ensures ∙ turned.0; at_after = turned.1.0; out_after = said.buffer_after ∙ turned.1.1 }

@@ -3,14 +3,15 @@ use mathlib.Core.Path.{◌≡◌, sym, ap, ◌∙◌}
 use Prim.Native.Nat.{ℕ, ◌*◌, ◌/◌, ◌%◌, ◌<◌}
 use native.Mathlib.Nat.{le-div_iff_mul-le}
 use native.Mathlib.Omega.{arith}
+use Rattle.std.specs.Prelude.{None}
 use Rattle.residue.specs.Cofactors.{bezout_of}
 use Rattle.residue.specs.Congruence.{solutions_of}
 use Rattle.residue.specs.Gcd.{gcd}
-use Rattle.residue.specs.declared.congruence.Solutions.TheVariants.{NoSolution, Spaced}
 use Rattle.residue.specs.declared.extended.Bezout.{Bezout}
 use Rattle.residue.proofs.Gcd.{gcd_positive, gcd_le}
 use Rattle.residue.proofs.Solutions.{solutions_are, solutions_none}
 use Rattle.residue.proofs.congruence.solve.Goals as goal
+use Rattle.residue.specs.Congruence.{spaced}
 
 module _ (a b m : ℕ) (z : Bezout) (pos : 0 < m) (is : z ≡ bezout_of m a m) where
   divisor : z.divisor ≡ gcd a m
@@ -29,10 +30,10 @@ module _ (a b m : ℕ) (z : Bezout) (pos : 0 < m) (is : z ≡ bezout_of m a m) w
       rw spacing
       ((le-div_iff_mul-le {k = z.divisor} {x = 1} {y = m} divisor_positive).1 (rw divisor (omega (arith, gcd_le a m pos))))
 
-  found_none : (b % z.divisor ≡ 0 → ⊥) → NoSolution ≡ solutions_of a b m
+  found_none : (b % z.divisor ≡ 0 → ⊥) → None ≡ solutions_of a b m
   found_none h = sym (solutions_none a b m (rw divisor at h))
 
-  found : (t : ℕ) → b % z.divisor ≡ 0 → t ≡ z.s * (b / z.divisor) % z.p → Spaced t z.p ≡ solutions_of a b m
+  found : (t : ℕ) → b % z.divisor ≡ 0 → t ≡ z.s * (b / z.divisor) % z.p → spaced t z.p ≡ solutions_of a b m
   unfolding bezout_of
   found t h e = rw (e, is) (sym (solutions_are a b m pos (rw divisor at h)))
 

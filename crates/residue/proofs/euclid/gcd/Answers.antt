@@ -2,7 +2,6 @@
 -- the count up to that of (a, b). The measure is y.
 use mathlib.Core.Path.{◌≡◌, sym, ap, ◌∙◌}
 use Prim.Native.Nat.{◌<◌}
-use native.Mathlib.Nat.{mod-lt}
 use native.Mathlib.Omega.{arith}
 use Rattle.residue.specs.Chain.{chain_of}
 use Rattle.residue.specs.Gcd.{gcd, gcd-zero, gcd-step, divisions, divisions-zero, divisions-step}
@@ -15,9 +14,6 @@ overflow_add-count c =
     let l = c.loop-y in
     let p = c.args in
     omega (arith, divisions-step l.x l.y (omega arith), divisions_le p.a p.b)
-
-pub loop-y-smaller : goal.loop-y-smaller
-loop-y-smaller c = rw c.divide-division.ensures.1 (mod-lt c.loop-y.x (omega arith))
 
 pub loop-y-preserved : goal.loop-y-preserved
 loop-y-preserved c =

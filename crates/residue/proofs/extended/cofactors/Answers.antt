@@ -3,14 +3,14 @@
 use mathlib.Core.Bool.{Bool, true, false, not, cond, not-not}
 use mathlib.Core.Path.{◌≡◌, refl, sym, ap, subst, ◌∙◌}
 use Prim.Native.Nat.{ℕ, zero, suc, ◌+◌, ◌*◌, ◌/◌, ◌%◌, ◌<◌}
-use native.Mathlib.Nat.{mod-lt, mod-one, div-one}
+use native.Mathlib.Nat.{mod-one, div-one}
 use native.Mathlib.Omega.{arith}
 use Rattle.residue.specs.Gcd.{gcd, gcd-zero, gcd-step}
 use Rattle.residue.specs.Bezout.{cofactors}
 use Rattle.residue.specs.Cofactors.{bezout_of}
 use Rattle.residue.specs.Negative.{negative}
 use Rattle.residue.proofs.Bezout.{cofactors_bezout}
-use Rattle.residue.proofs.Columns.{column-first, column_second, column-step, column-given, column_fits, column_end, column-quotient}
+use Rattle.residue.proofs.Columns.{column-first, column_second, column-step, column-given, column_end, column-quotient}
 use Rattle.residue.proofs.Congruent.{remainder_is}
 use Rattle.residue.proofs.Gcd.{gcd_comm, gcd_positive}
 use Rattle.residue.proofs.Inverse.{quotient_is}
@@ -78,21 +78,6 @@ loop-y-init c =
     let p = c.args in
     let r = c.requires in
     begins p.m p.a p.b p.quotient p.rest r.0 r.1 r.2 r.3
-
-pub overflow_mul-s_after : goal.overflow_mul-s_after
-overflow_mul-s_after c = omega (arith, column_fits (omega arith) c.divide-division.ensures.0 c.loop-y.invariant.1)
-
-pub overflow_add-s_after : goal.overflow_add-s_after
-overflow_add-s_after c = omega (arith, column_fits (omega arith) c.divide-division.ensures.0 c.loop-y.invariant.1)
-
-pub overflow_mul-t_after : goal.overflow_mul-t_after
-overflow_mul-t_after c = omega (arith, column_fits (omega arith) c.divide-division.ensures.0 c.loop-y.invariant.2)
-
-pub overflow_add-t_after : goal.overflow_add-t_after
-overflow_add-t_after c = omega (arith, column_fits (omega arith) c.divide-division.ensures.0 c.loop-y.invariant.2)
-
-pub loop-y-smaller : goal.loop-y-smaller
-loop-y-smaller c = rw c.divide-division.ensures.1 (mod-lt c.loop-y.x (omega arith))
 
 pub loop-y-preserved : goal.loop-y-preserved
 loop-y-preserved c =

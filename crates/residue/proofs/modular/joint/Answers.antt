@@ -11,12 +11,6 @@ rest : (s a t b : ℕ) {m u v k l y w z : ℕ} → s < m → u ≡ s * 429496729
 rest s a t b small eu ev sum ek el ey ew ez =
     left_over 1 s a t b (omega arith) (omega arith) eu ev sum (ap₂ ◌+◌ ek el) (ap₂ ◌+◌ ey ew) ez
 
-pub overflow_add-u : goal.overflow_add-u
-overflow_add-u c = omega (arith, reciprocal_small c.requires.0 (omega arith) c.requires.1)
-
-pub overflow_add-v : goal.overflow_add-v
-overflow_add-v c = omega (arith, reciprocal_small c.requires.2 (omega arith) c.requires.3)
-
 pub overflow_add-quotient : goal.overflow_add-quotient
 overflow_add-quotient c =
     let p = c.requires in
@@ -32,20 +26,6 @@ overflow_add-quotient c =
 
 pub overflow_cast-quotient : goal.overflow_cast-quotient
 overflow_cast-quotient c = omega (arith, overflow_add-quotient c)
-
-pub overflow_add-sum-2 : goal.overflow_add-sum-2
-overflow_add-sum-2 c =
-    let p = c.requires in
-    let z = c.args in
-    omega (
-      arith,
-      both_fit 2147483648 z.s z.t z.a z.b (omega arith) (omega arith) p.4,
-      c.product-3.ensures.0,
-      c.product-4.ensures.0,
-    )
-
-pub overflow_add-sum : goal.overflow_add-sum
-overflow_add-sum c = omega (arith, overflow_add-sum-2 c)
 
 pub overflow_sub-sum : goal.overflow_sub-sum
 overflow_sub-sum c =

@@ -1,17 +1,12 @@
 -- `reciprocal` meets its contract: the rest tells whether what was read off is one too small.
 use mathlib.Core.Path.{◌≡◌, refl, sym, ap, ◌∙◌, subst}
 use Prim.Native.Nat.{ℕ, ◌+◌, ◌*◌, ◌/◌, ◌≤◌, ◌<◌}
-use native.Mathlib.Nat.{lt_of_mul-lt-mul_left}
 use native.Mathlib.Omega.{arith}
 use Rattle.residue.specs.Inverse.{inverse_of}
-use Rattle.residue.proofs.Inverse.{inverse_fits, inverse_low, inverse_high, quotient_is}
+use Rattle.residue.proofs.Inverse.{inverse_low, inverse_high, quotient_is}
 use Rattle.residue.proofs.modular.reciprocal.Goals as goal
 
--- w is a, v the inverse of m
-fits : (a m v w : ℕ) → a < m → v ≡ inverse_of m → w ≡ a → w * v < 18446744073709551616
-fits a m v w small is e = subst (λ (k : ℕ). k * v < 18446744073709551616) (sym e) (inverse_fits a m v small is)
-
--- q was read off, and p is q·m
+-- w is a, v the inverse of m, q was read off, and p is q·m
 module _ (a m v w q p : ℕ) (small : a < m) (narrow : m < 4294967296) (is : v ≡ inverse_of m) (e : w ≡ a) (read : q ≡ w * v / 4294967296)
     (times : p ≡ q * m) where
   same : q ≡ a * v / 4294967296
@@ -23,9 +18,6 @@ module _ (a m v w q p : ℕ) (small : a < m) (narrow : m < 4294967296) (is : v �
   high : a * 4294967296 < (q + 2) * m
   high = subst (λ (k : ℕ). a * 4294967296 < (k + 2) * m) (sym same) (inverse_high a m v small is narrow)
 
-  cast : q < 4294967296
-  cast = lt_of_mul-lt-mul_left m (omega (arith, low))
-
   taken_off : p ≤ a * 4294967296
   taken_off = omega (arith, low, times)
 
@@ -34,21 +26,6 @@ module _ (a m v w q p : ℕ) (small : a < m) (narrow : m < 4294967296) (is : v �
 
   one-small : p + m ≤ a * 4294967296 → q + 1 ≡ a * 4294967296 / m
   one-small h = quotient_is (a * 4294967296) m (q + 1) (omega arith) (omega (arith, times)) (omega (arith, high))
-
-  one_more : p + m ≤ a * 4294967296 → q + 1 < 4294967296
-  one_more h = lt_of_mul-lt-mul_left m (omega (arith, times))
-
-pub overflow_mul-low : goal.overflow_mul-low
-overflow_mul-low c =
-    let a = c.args in
-    omega (arith, fits a.a a.m a.inverse c.wide.result c.requires.0 c.requires.1 c.wide.ensures)
-
-pub overflow_cast-low : goal.overflow_cast-low
-overflow_cast-low c =
-    let a = c.args in
-    let w = c.wide in
-    let q = w.result * a.inverse / 4294967296 in
-    omega (arith, cast a.a a.m a.inverse w.result q (q * a.m) c.requires.0 (omega arith) c.requires.1 w.ensures refl refl)
 
 pub overflow_sub-rest : goal.overflow_sub-rest
 overflow_sub-rest c =
@@ -59,20 +36,6 @@ overflow_sub-rest c =
       arith,
       taken_off a.a a.m a.inverse w.result q c.product.result c.requires.0 (omega arith) c.requires.1 w.ensures refl
           c.product.ensures.0,
-    )
-
-pub overflow_add-result : goal.overflow_add-result
-overflow_add-result c =
-    let a = c.args in
-    let w = c.wide in
-    let p = c.product in
-    let q = w.result * a.inverse / 4294967296 in
-    let t = taken_off a.a a.m a.inverse w.result q p.result c.requires.0 (omega arith) c.requires.1 w.ensures refl
-    p.ensures.0 in
-    omega (
-      arith,
-      one_more a.a a.m a.inverse w.result q p.result c.requires.0 (omega arith) c.requires.1 w.ensures refl
-          p.ensures.0 (omega (arith, t)),
     )
 
 pub returns-then-rest-wide : goal.returns-then-rest-wide

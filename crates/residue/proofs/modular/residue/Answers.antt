@@ -16,7 +16,7 @@ pub returns : goal.returns
 returns c =
     let p = c.args in
     let read = to_z-of_z {w = w64} c.ranges.x in
-    let sized = c.size.ensures in (
+    let sized = c.unsigned_abs.ensures.value in (
       c.signed.ensures.0
           ∙ ap (λ (k : ℕ). cond (lt_z (to_z w64 (of_z w64 p.x)) (pos 0)) (negative p.m k % p.m) (k % p.m)) sized
           ∙ residue_sized p.m (to_z w64 (of_z w64 p.x)) ∙ ap (residue_of p.m) read,

@@ -8,6 +8,3 @@ returns-then-minus c =
     let p = c.args in
     let same = negative-mod p.m p.size c.remainder-residue.ensures.0 in
     rw (c.if-minus.true, sym same) c.opposite.ensures
-
-pub returns-else-minus : goal.returns-else-minus
-returns-else-minus c = rw c.if-minus.false c.remainder-residue.ensures

@@ -1,18 +1,14 @@
 -- `lines::line_into` meets its contract. The invariant: the first p coefficients are written, what is behind them as it was.
--- The measure is what is left.
 use mathlib.Core.List.{List, ◌++◌}
 use mathlib.Core.Path.{◌≡◌, sym, ap, ap₂, ◌∙◌}
 use Prim.Native.Nat.{ℕ, ◌%◌}
 use native.Mathlib.Omega.{arith}
 use lib.ListN.{take, drop, set}
-use Rattle.slices.proofs.Copied.{copied_none, copied_more}
+use Rattle.slices.proofs.Copied.{copied_more}
 use Rattle.residue.specs.Negative.{negative}
 use Rattle.safe.specs.Model.Lines.{coefficients}
 use Rattle.safe.proofs.Laid.{length-coefficients, coefficient_at, line_end}
 use Rattle.safe.proofs.lines.line_into.Goals as goal
-
-pub loop-p-init : goal.loop-p-init
-loop-p-init c = let a = c.args in copied_none (coefficients a.columns a.i 0 a.n) a.line.now
 
 pub loop-p-preserved : goal.loop-p-preserved
 loop-p-preserved c =

@@ -6,7 +6,6 @@ use Prim.Native.Nat.{ℕ, ◌+◌, ◌*◌, ◌≤◌}
 use native.Mathlib.Omega.{arith}
 use lib.ListN.{length, take, drop, replicate}
 use lib.Seq.{length-take-le, take_at}
-use Rattle.slices.proofs.Parts.{joined-fit, relent_length}
 use Rattle.equations.specs.Lines.{equations_of}
 use Rattle.system.specs.Posed.{Posed}
 use Rattle.system.proofs.Written.{answer-block}
@@ -18,36 +17,6 @@ cleared = replicate 272 0
 
 front_length_lem : (n : ℕ) → n ≤ 16 → length (take (n * (n + 1)) cleared) ≡ n * (n + 1)
 front_length_lem n few = length-take-le (n * (n + 1)) cleared (lines_fit n few)
-
-pub overflow_mul-size : goal.overflow_mul-size
-overflow_mul-size c =
-    omega (arith, lines_fit (length c.args.values.now) c.requires.1.few)
-
-pub slice_bounds-lines-end : goal.slice_bounds-lines-end
-slice_bounds-lines-end c =
-    omega (arith, lines_fit (length c.args.values.now) c.requires.1.few)
-
-pub slice_bounds-lines_into-end : goal.slice_bounds-lines_into-end
-slice_bounds-lines_into-end c =
-    let n = length c.args.values.now in
-    sym (front_length_lem n c.requires.1.few)
-
-pub lines_into-requires : goal.lines_into-requires
-lines_into-requires c =
-    let n = length c.args.values.now in
-    (omega (arith, c.requires.1.modulus), c.requires.1.row, front_length_lem n c.requires.1.few)
-
-pub slice_bounds-lines-end-2 : goal.slice_bounds-lines-end-2
-slice_bounds-lines-end-2 c =
-    let n = length c.args.values.now in
-    let s = c.lines_into in
-    joined-fit (n * (n + 1)) cleared s.new.lines (s.auto.lines ∙ front_length_lem n c.requires.1.few)
-
-pub slice_bounds-solve-end : goal.slice_bounds-solve-end
-slice_bounds-solve-end c =
-    let n = length c.args.values.now in
-    let s = c.lines_into in
-    sym (relent_length (n * (n + 1)) cleared s.new.lines (s.auto.lines ∙ front_length_lem n c.requires.1.few))
 
 pub solve-requires : goal.solve-requires
 solve-requires c =

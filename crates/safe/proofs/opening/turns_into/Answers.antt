@@ -1,14 +1,17 @@
 -- `opening::turns_into` meets its contract: `first_turns` tells the turns that are written, or that there are none.
 use mathlib.Core.List.{List}
 use mathlib.Core.Option.{none, some}
-use mathlib.Core.Path.{◌≡◌, sym, ap, ◌∙◌}
+use mathlib.Core.Path.{◌≡◌, ap, ◌∙◌}
 use Prim.Native.Nat.{ℕ, ◌*◌}
 use native.Mathlib.Omega.{arith}
 use lib.ListN.{length, take}
 use lib.Seq.{length-take-le}
 use Rattle.system.specs.declared.solving.Answer.{Answer}
+use Rattle.std.specs.Prelude.{Err}
+use Rattle.questions.specs.Refusals.{by_number}
+use Rattle.questions.proofs.Ladder.{let_in_le, turned_only, turned_lt, handed_on}
 use Rattle.words.specs.Words.{entry_kind}
-use Rattle.safe.specs.declared.Turned.TheVariants.{Wrote}
+use Rattle.safe.specs.Turned.{gives_turns}
 use Rattle.safe.specs.Turns.{turns_of}
 use Rattle.safe.specs.Model.Handed.{Lockable, Found}
 use Rattle.safe.proofs.Answer.{found_none, found_some}
@@ -48,47 +51,21 @@ returns-then-answer-eq0 c =
     no_turns p.out.now
     (nothing p.m p.columns p.values.now first.result first.ensures c.if-answer-eq0.true rows count)
 
-pub slice_bounds-turns-end : goal.slice_bounds-turns-end
-slice_bounds-turns-end c =
-    let first = c.first_turns-answer in
-    let p = c.args in
-    let size : length first.result.numbers ≡ 272 = search rules in
-    omega (arith, size, c.requires.1.few)
-
-pub slice_bounds-written_length-end : goal.slice_bounds-written_length-end
-slice_bounds-written_length-end c =
-    let first = c.first_turns-answer in
-    let p = c.args in
-    let size : length first.result.numbers ≡ 272 = search rules in
-    sym (length-take-le (length p.values.now) first.result.numbers (omega (arith, size, c.requires.1.few)))
-
-pub returns-then-out-written_length : goal.returns-then-out-written_length
-returns-then-out-written_length c =
+pub returns-in_err-ask : goal.returns-in_err-ask
+returns-in_err-ask c =
     let first = c.first_turns-answer in
     let p = c.args in
     let size : length first.result.numbers ≡ 272 = search rules in
     let shown =
     shows p.m p.columns p.values.now first.result first.ensures c.if-answer-eq0.false c.requires size in
     let long = c.written_length.ensures entry_kind in
+    let out = c.from_residual in
+    let refusal = c.in_err-ask.field-0.0 in
     λ rows count.
-    too_short p.out.now (take (length p.values.now) first.result.numbers) (shown.are rows count) (omega (arith, long, c.if-out-written_length.true))
-
-pub slice_bounds-turns-end-2 : goal.slice_bounds-turns-end-2
-slice_bounds-turns-end-2 c =
-    let first = c.first_turns-answer in
-    let p = c.args in
-    let size : length first.result.numbers ≡ 272 = search rules in
-    omega (arith, size, c.requires.1.few)
-
-pub slice_bounds-write-end : goal.slice_bounds-write-end
-slice_bounds-write-end c =
-    let first = c.first_turns-answer in
-    let p = c.args in
-    let size : length first.result.numbers ≡ 272 = search rules in
-    sym (length-take-le (length p.values.now) first.result.numbers (omega (arith, size, c.requires.1.few)))
-
-pub write-written-requires : goal.write-written-requires
-write-written-requires c = (omega arith, omega (arith, c.written_length.ensures entry_kind, c.if-out-written_length.false))
+    let both =
+    too_short p.out.now (take (length p.values.now) first.result.numbers) (shown.are rows count)
+    (omega (arith, long, turned_lt 8 _ _ refusal c.in_err-ask.ensures)) in
+    (ap by_number (handed_on out.result refusal out.ensures.1) ∙ ap Err (turned_only 8 _ refusal c.in_err-ask.ensures) ∙ both.0, both.1)
 
 pub returns : goal.returns
 returns c =
@@ -98,8 +75,8 @@ returns c =
     let shown =
     shows p.m p.columns p.values.now first.result first.ensures c.if-answer-eq0.false c.requires size in
     let long = c.written_length.ensures entry_kind in
-    let written = c.write-written.ensures in
+    let written = c.write.ensures in
     λ rows count.
     let given =
-    wrote p.out.now (take (length p.values.now) first.result.numbers) (shown.are rows count) (omega (arith, long, c.if-out-written_length.false)) in
-    (ap Wrote written.value ∙ given.0, written.out_after ∙ given.1)
+    wrote p.out.now (take (length p.values.now) first.result.numbers) (shown.are rows count) (omega (arith, long, let_in_le 8 _ _ (omega arith) c.in_ok-ask.ensures)) in
+    (ap gives_turns written.value ∙ given.0, written.out_after ∙ given.1)

@@ -1,62 +1,39 @@
--- `posing::locks` meets its contract: a size with a number above 16 is not allowed, and of the others the product tells.
-use mathlib.Core.Bool.{Bool, true, false, cond}
-use mathlib.Core.Path.{◌≡◌, refl}
-use Prim.Native.Nat.{ℕ, zero, suc, ◌*◌, ◌≤◌, ◌<◌}
-use native.Mathlib.Nat.{mul-le-mul}
+-- `posing::locks` meets its contract: the product tells which sizes are allowed, as it is 0 where a number is.
+use mathlib.Core.Bool.{Bool, true, false, cond, ◌&&◌}
+use mathlib.Core.Path.{◌≡◌, refl, sym, ◌∙◌}
+use Prim.Native.Nat.{ℕ, zero, suc, ◌*◌}
+use native.Mathlib.Nat.{mul-pos}
 use native.Mathlib.Omega.{arith}
-use borrow.Author.Tests.{le-leb}
-use lib.Dec.{T}
-use Rattle.equations.proofs.Truth.{false_of}
-use Rattle.safe.specs.Calls.{most_locks, allowed_size}
-use Rattle.safe.proofs.Questions.{size-allowed}
+use borrow.Author.Tests.{lt-ltb, le-leb}
+use lib.Dec.{ltb, leb}
+use Rattle.std.proofs.Common.{Some, None}
+use Rattle.std.specs.Bool.{then_some}
+use Rattle.safe.specs.Calls.{allowed_size}
 use Rattle.safe.proofs.posing.locks.Goals as goal
+use Rattle.safe.proofs.posing.locks.Goals.{then-count-gt0, else-count-gt0}
 
--- one number above 16 is enough
-too_many : (rows columns : ℕ) → most_locks < rows → 1 ≤ columns → most_locks < rows * columns
-too_many rows columns h k = omega (arith, mul-le-mul {n₁ = 17} {m₁ = 1} {n₂ = rows} {m₂ = columns} h k)
+product_tells : (rows columns : ℕ) → ltb 0 (rows * columns) && leb (rows * columns) 16 ≡ allowed_size rows columns
+product_tells zero columns = let none : 0 * columns ≡ 0 = omega arith in rw none
+product_tells (suc r) zero = let none : suc r * 0 ≡ 0 = omega arith in rw (none, le-leb 1 (suc r) (omega arith))
+product_tells (suc r) (suc k) =
+    rw (le-leb 1 (suc r) (omega arith), le-leb 1 (suc k) (omega arith), lt-ltb 0 (suc r * suc k) (mul-pos (omega arith) (omega arith)))
 
-small : (rows columns : ℕ) → rows ≤ 16 → columns ≤ 16 → rows * columns ≤ 256
-small rows columns h k = mul-le-mul {n₁ = rows} {m₁ = columns} {n₂ = 16} {m₂ = 16} h k
+some_if : (b : Bool) (x : ℕ) → then_some b x ≡ cond b (Some x) None
+some_if true x = refl
+some_if false x = refl
 
-not_allowed : (rows columns : ℕ) → (T (allowed_size rows columns) → ⊥)
-    → 0 ≡ cond (allowed_size rows columns) (rows * columns) 0
-not_allowed rows columns f = rw (false_of (allowed_size rows columns) f)
-
--- a product that is 0 needs no test
-nothing : (b : Bool) (n : ℕ) → n ≡ 0 → n ≡ cond b n 0
-nothing true n e = refl
-nothing false n e = e
-
-counted : (rows columns : ℕ) → rows * columns ≤ most_locks
-    → rows * columns ≡ cond (allowed_size rows columns) (rows * columns) 0
-counted zero columns h = nothing (allowed_size 0 columns) (0 * columns) (omega arith)
-counted (suc r) zero h = nothing (allowed_size (suc r) 0) (suc r * 0) (omega arith)
-counted (suc r) (suc k) h =
-    rw (le-leb 1 (suc r) (omega arith), le-leb 1 (suc k) (omega arith), le-leb (suc r * suc k) most_locks h)
-
-pub returns-then-rows-gt-LOCKS : goal.returns-then-rows-gt-LOCKS
-returns-then-rows-gt-LOCKS c =
-    let p = c.args in
-    not_allowed p.rows p.columns
-    (λ t. let size = size-allowed p.rows p.columns t in
-    omega (arith, size.2, too_many p.rows p.columns c.if-rows-gt-LOCKS.true size.1))
-
-pub returns-then-columns-gt-LOCKS : goal.returns-then-columns-gt-LOCKS
-returns-then-columns-gt-LOCKS c =
-    let p = c.args in
-    not_allowed p.rows p.columns
-    (λ t. let size = size-allowed p.rows p.columns t in
-    omega (arith, size.2, too_many p.columns p.rows c.if-columns-gt-LOCKS.true size.0))
-
-pub overflow_mul-count : goal.overflow_mul-count
-overflow_mul-count c =
-    let p = c.args in
-    omega (arith, small p.rows p.columns (omega arith) (omega arith))
-
-pub returns-then-count-gt-LOCKS : goal.returns-then-count-gt-LOCKS
-returns-then-count-gt-LOCKS c =
-    let p = c.args in
-    not_allowed p.rows p.columns (λ t. omega (arith, (size-allowed p.rows p.columns t).2))
+sized : (rows columns count : ℕ) (b : Bool) → count ≡ rows * columns → b ≡ ltb 0 count && leb count 16
+    → then_some b count ≡ cond (allowed_size rows columns) (Some (rows * columns)) None
+sized rows columns count b product is = some_if b count ∙ rw (is, product, product_tells rows columns)
 
 pub returns : goal.returns
-returns c = let p = c.args in counted p.rows p.columns (omega arith)
+returns c =
+    let p = c.args in
+    let count = c.in_ok-count.count in
+    let b = c.if-count-gt0.then_some in
+    c.then_some.ensures
+    ∙ sized p.rows p.columns count b c.in_ok-count.ensures.1 (
+    elim c.if-count-gt0.branch [
+      | then-count-gt0 w ↦ w.then_some-is ∙ sym (rw (lt-ltb 0 count w.if-count-gt0.true))
+      | else-count-gt0 w ↦ let none : count ≡ 0 = omega arith in w.then_some-is ∙ rw none
+    ])

@@ -5,29 +5,26 @@ use Prim.Native.Nat.{◌+◌, ◌*◌}
 use native.Mathlib.Omega.{arith}
 use lib.ListN.{length}
 use lib.Seq.{length-take-le}
+use Rattle.std.specs.Prelude.{Ok, Err}
 use Rattle.slices.specs.Over.{over}
+use Rattle.questions.specs.Refusals.{by_number}
+use Rattle.questions.proofs.Ladder.{let_in_le, turned_only, turned_lt, handed_on}
 use Rattle.questions.proofs.Reply.{gives-short, gives-written}
 use Rattle.equations.specs.Equation.{Equation}
 use Rattle.system.specs.Claims.{claim_of}
 use Rattle.system.specs.Wanted.{wanted_of}
-use Rattle.setting.specs.declared.Made.TheVariants.{Lines, Refused}
 use Rattle.setting.specs.Calls.{sheet_room, sheet_memory}
-use Rattle.setting.proofs.Wantable.{wantable_room, made-fits, made-room, made-read}
+use Rattle.setting.proofs.Wantable.{made-fits, made-room, made-read}
 use Rattle.setting.proofs.making.make.Goals as goal
 
-pub overflow_mul-n-2 : goal.overflow_mul-n-2
-overflow_mul-n-2 c =
-    omega (arith, wantable_room c.args.m c.args.n c.args.claim.now c.requires)
-
-pub returns-then-out-n : goal.returns-then-out-n
-returns-then-out-n c =
+pub returns-in_err-ask : goal.returns-in_err-ask
+returns-in_err-ask c =
     let a = c.args in
     let es = wanted_of a.m a.n (claim_of a.n a.claim.now) in
-    gives-short Refused a.out.now (sheet_room a.n) (Lines (length es)) (sheet_memory es) c.if-out-n.true
-
-pub lines_for-count-requires : goal.lines_for-count-requires
-lines_for-count-requires c =
-    (c.requires.modulus, c.requires.has_unknowns, c.requires.unknowns, c.requires.claimed, wantable_room c.args.m c.args.n c.args.claim.now c.requires)
+    let out = c.from_residual in
+    let refusal = c.in_err-ask.field-0.0 in
+    let both = gives-short Err a.out.now (sheet_room a.n) (Ok (length es)) (sheet_memory es) (turned_lt 8 _ _ refusal c.in_err-ask.ensures) in
+    (ap by_number (handed_on out.result refusal out.ensures.1) ∙ ap Err (turned_only 8 _ refusal c.in_err-ask.ensures) ∙ both.0, both.1)
 
 pub overflow_mul-end : goal.overflow_mul-end
 overflow_mul-end c =
@@ -55,7 +52,7 @@ write_lines-requires c =
         arith,
         ap (λ (es : List Equation). length (sheet_memory es)) read,
         made-fits a.m a.n a.claim.now c.requires,
-        c.if-out-n.false,
+        let_in_le 8 _ _ (omega arith) c.in_ok-ask.ensures,
       ),
     )
 
@@ -67,8 +64,8 @@ returns c =
     let rows = c.lines_for-count in
     let read = made-read a.m a.n a.claim.now c.requires rows.result rows.ensures.value _ rows.ensures.lines_after in
     let given =
-    gives-written Refused old (sheet_room a.n) (Lines (length es)) (sheet_memory es)
-    (omega (arith, c.if-out-n.false)) in (
-      ap Lines rows.ensures.value ∙ given.0,
+    gives-written Err old (sheet_room a.n) (Ok (length es)) (sheet_memory es)
+    (omega (arith, let_in_le 8 _ _ (omega arith) c.in_ok-ask.ensures)) in (
+      ap Ok rows.ensures.value ∙ given.0,
       c.write_lines.ensures ∙ ap (λ (fs : List Equation). over (sheet_memory fs) old) read ∙ given.1,
     )

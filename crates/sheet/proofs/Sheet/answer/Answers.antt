@@ -1,97 +1,79 @@
 -- `Sheet::answer` meets its contract: each way out has the answers to the questions so far, and the last one the block.
-use mathlib.Core.Path.{sym, ap, ◌∙◌}
+use mathlib.Core.Path.{ap, ◌∙◌}
 use mathlib.Core.List.{List, ◌∷◌}
 use Prim.Native.Nat.{ℕ}
 use native.Mathlib.Omega.{arith}
-use borrow.Author.Tests.{not-true, not-false}
 use lib.ListN.{length, take}
 use lib.Seq.{length-take-le}
+use Rattle.std.specs.Prelude.{Ok, Err}
 use Rattle.slices.specs.Over.{over}
+use Rattle.questions.specs.Refusals.{by_number}
+use Rattle.questions.proofs.Ladder.{let_in, let_in_le, turned_only, turned_no, turned_lt, handed_on}
 use Rattle.equations.proofs.Truth.{of_true}
 use Rattle.ledger.specs.Block.{block_room}
-use Rattle.sheet.specs.declared.answering.Answered.TheVariants.{Wrote}
 use Rattle.sheet.specs.Record.{ledger_of}
 use Rattle.sheet.proofs.Reading.{reads-allowed}
 use Rattle.sheet.proofs.Solved.{solved_whole, solved_words, solved_room, solved_fits, solved_head, solved_start}
 use Rattle.sheet.proofs.Answers.{answered_unopened, answered_short, answered_wrote}
 use Rattle.sheet.proofs.Sheet.answer.Goals as goal
 
-pub returns-then-not-seen : goal.returns-then-not-seen
-returns-then-not-seen c =
+pub returns-in_err-ask : goal.returns-in_err-ask
+returns-in_err-ask c =
     let a = c.args in
-    let view = c.view-view.ensures.views in
-    let both = answered_unopened (ledger_of a.sheet.now) a.buffer.now (sym view.sees.opened ∙ not-true _ c.if-not-seen.true) in record { value = both.0; buffer_after = both.1 }
+    let sees = c.seen-seen.ensures.sees in
+    let out = c.from_residual in
+    let refusal = c.in_err-ask.field-0.0 in
+    let number = turned_only 4 _ refusal c.in_err-ask.ensures in
+    let both = answered_unopened (ledger_of a.sheet.now) a.buffer.now (turned_no 4 sees.opened refusal c.in_err-ask.ensures) in
+    record { value = ap by_number (handed_on out.result refusal out.ensures.1) ∙ ap Err number ∙ both.0; buffer_after = both.1 }
 
-pub block_of-block-requires : goal.block_of-block-requires
-block_of-block-requires c =
-    let view = c.view-view.ensures.views in
-    (view, of_true (sym view.sees.opened ∙ not-false _ c.if-not-seen.false))
-
-pub slice_bounds-numbers-end : goal.slice_bounds-numbers-end
-slice_bounds-numbers-end c =
-    let block = c.block_of-block in
-    solved_whole (ledger_of c.args.sheet.now) block.result block.ensures
-
-pub slice_bounds-block_room-end : goal.slice_bounds-block_room-end
-slice_bounds-block_room-end c =
-    let block = c.block_of-block in
-    sym (length-take-le block.result.len block.result.numbers
-    (solved_whole (ledger_of c.args.sheet.now) block.result block.ensures))
-
-pub returns-then-buffer-room : goal.returns-then-buffer-room
-returns-then-buffer-room c =
+pub returns-in_err-ask-2 : goal.returns-in_err-ask-2
+returns-in_err-ask-2 c =
     let a = c.args in
     let l = ledger_of a.sheet.now in
-    let view = c.view-view.ensures.views in
-    let opens = sym view.sees.opened ∙ not-false _ c.if-not-seen.false in
-    let block = c.block_of-block in
+    let sees = c.seen-seen.ensures.sees in
+    let opens = let_in 4 sees.opened (omega arith) c.in_ok-ask.ensures in
+    let block = c.block-block in
     let numbers = take block.result.len block.result.numbers in
     let room =
-    c.block_room-room.ensures ∙ ap (λ (m : ℕ). block_room m (block.result.head ∷ numbers)) view.sees.modulus
+    c.block_room-room.ensures ∙ ap (λ (m : ℕ). block_room m (block.result.head ∷ numbers)) sees.modulus
     ∙ solved_room l (reads-allowed a.sheet.now (of_true opens)) block.result block.ensures (of_true opens) in
-    let both = answered_short l a.buffer.now opens (omega (arith, room, c.if-buffer-room.true)) in record { value = both.0; buffer_after = both.1 }
+    let out = c.from_residual-in_err-ask-2 in
+    let refusal = c.in_err-ask-2.field-0.0 in
+    let short = turned_lt 8 _ _ refusal c.in_err-ask-2.ensures in
+    let both = answered_short l a.buffer.now opens (omega (arith, room, short)) in
+    record { value = ap by_number (handed_on out.result refusal out.ensures.1) ∙ ap Err (turned_only 8 _ refusal c.in_err-ask-2.ensures) ∙ both.0; buffer_after = both.1 }
 
-pub slice_bounds-numbers-end-2 : goal.slice_bounds-numbers-end-2
-slice_bounds-numbers-end-2 c =
-    let block = c.block_of-block in
-    solved_whole (ledger_of c.args.sheet.now) block.result block.ensures
-
-pub slice_bounds-write_block-end : goal.slice_bounds-write_block-end
-slice_bounds-write_block-end c =
-    let block = c.block_of-block in
-    sym (length-take-le block.result.len block.result.numbers
-    (solved_whole (ledger_of c.args.sheet.now) block.result block.ensures))
-
-pub write_block-written-requires : goal.write_block-written-requires
-write_block-written-requires c =
+pub write_block-requires : goal.write_block-requires
+write_block-requires c =
     let a = c.args in
     let l = ledger_of a.sheet.now in
-    let view = c.view-view.ensures.views in
-    let opens = sym view.sees.opened ∙ not-false _ c.if-not-seen.false in
-    let block = c.block_of-block in
+    let sees = c.seen-seen.ensures.sees in
+    let opens = let_in 4 sees.opened (omega arith) c.in_ok-ask.ensures in
+    let block = c.block-block in
     let numbers = take block.result.len block.result.numbers in
     let allowed = reads-allowed a.sheet.now (of_true opens) in
     let long = length-take-le block.result.len block.result.numbers (solved_whole l block.result block.ensures) in
     let room =
-    c.block_room-room.ensures ∙ ap (λ (m : ℕ). block_room m (block.result.head ∷ numbers)) view.sees.modulus
+    c.block_room-room.ensures ∙ ap (λ (m : ℕ). block_room m (block.result.head ∷ numbers)) sees.modulus
     ∙ solved_room l allowed block.result block.ensures (of_true opens) in (
       solved_head l allowed block.result block.ensures,
-      (λ some. omega (arith, long, view.sees.unknowns, solved_start l allowed block.result block.ensures some)),
-      omega (arith, room, c.if-buffer-room.false, solved_fits l allowed block.result block.ensures (of_true opens)),
+      (λ some. omega (arith, long, sees.unknowns, solved_start l allowed block.result block.ensures some)),
+      omega (arith, room, let_in_le 8 _ _ (omega arith) c.in_ok-ask-2.ensures, solved_fits l allowed block.result block.ensures (of_true opens)),
     )
 
 pub returns : goal.returns
 returns c =
     let a = c.args in
     let l = ledger_of a.sheet.now in
-    let view = c.view-view.ensures.views in
-    let opens = sym view.sees.opened ∙ not-false _ c.if-not-seen.false in
-    let block = c.block_of-block in
+    let sees = c.seen-seen.ensures.sees in
+    let opens = let_in 4 sees.opened (omega arith) c.in_ok-ask.ensures in
+    let block = c.block-block in
     let numbers = take block.result.len block.result.numbers in
     let old = a.buffer.now in
     let allowed = reads-allowed a.sheet.now (of_true opens) in
     let room =
-    c.block_room-room.ensures ∙ ap (λ (m : ℕ). block_room m (block.result.head ∷ numbers)) view.sees.modulus
+    c.block_room-room.ensures ∙ ap (λ (m : ℕ). block_room m (block.result.head ∷ numbers)) sees.modulus
     ∙ solved_room l allowed block.result block.ensures (of_true opens) in
     let words = solved_words l allowed block.result block.ensures (of_true opens) in
-    let wrote = answered_wrote l old opens (omega (arith, room, c.if-buffer-room.false)) in record { value = ap Wrote (c.write_block-written.ensures.value ∙ ap length words) ∙ wrote.0; buffer_after = c.write_block-written.ensures.buffer_after ∙ ap (λ (ws : List ℕ). over ws old) words ∙ wrote.1 }
+    let wrote = answered_wrote l old opens (omega (arith, room, let_in_le 8 _ _ (omega arith) c.in_ok-ask-2.ensures)) in record { value = ap Ok (c.write_block.ensures.value ∙ ap length words) ∙ wrote.0; buffer_after = c.write_block.ensures.buffer_after ∙ ap (λ (ws : List ℕ). over ws old) words ∙ wrote.1 }

@@ -8,17 +8,14 @@ use native.Mathlib.Omega.{arith}
 use borrow.Author.Rules.{rules}
 use borrow.Author.Tests.{not-true, not-false, leb-true}
 use lib.Dec.{leb}
-use lib.ListN.{length}
 use mir.Facts.{and_yes}
-use Rattle.questions.specs.Questions.{largest_modulus}
-use Rattle.questions.proofs.Questions.{within_range}
 use Rattle.equations.specs.Multipliers.{all_below}
 use Rattle.equations.specs.Lines.{equations_of}
 use Rattle.equations.proofs.Truth.{true_of, of_true}
 use Rattle.lines.specs.Stored.{all_fit}
 use Rattle.ledger.specs.Questions.{allowed_unknowns}
 use Rattle.sheet.specs.Record.{modulus_in}
-use Rattle.sheet.proofs.Opened.{lines_to_lem, own_to, as_many, modulus_not, unknowns_not, equations_not, residues_not, moduli_decide}
+use Rattle.sheet.proofs.Opened.{lines_to_lem, own_to, modulus_not, unknowns_not, equations_not, residues_not, moduli_decide}
 use Rattle.sheet.proofs.Sheet.is_opened.Goals as goal
 
 module _ (n held : ℕ) (allowed : allowed_unknowns n ≡ true) (few : held ≤ 16) where
@@ -44,24 +41,6 @@ returns-then-held-gt-EQUATIONS c =
     sym (equations_not c.args.sheet.now (sym c.is_modulus.ensures ∙ not-false _ c.if-not-is_modulus.false-raw)
     (as_read c.wide-n.ensures (sym c.are_unknowns.ensures ∙ not-false _ c.if-not-are_unknowns.false-raw)) (omega (arith, c.wide-held.ensures)))
 
-pub overflow_add-end : goal.overflow_add-end
-overflow_add-end c =
-    let fit = lines_fit c.wide-n.result c.wide-held.result (sym c.are_unknowns.ensures ∙ not-false _ c.if-not-are_unknowns.false-raw) (omega arith) in omega (arith, fit.0)
-
-pub overflow_mul-end : goal.overflow_mul-end
-overflow_mul-end c =
-    let fit = lines_fit c.wide-n.result c.wide-held.result (sym c.are_unknowns.ensures ∙ not-false _ c.if-not-are_unknowns.false-raw) (omega arith) in omega (arith, fit.1)
-
-pub overflow_add-end-2 : goal.overflow_add-end-2
-overflow_add-end-2 c =
-    let fit = lines_fit c.wide-n.result c.wide-held.result (sym c.are_unknowns.ensures ∙ not-false _ c.if-not-are_unknowns.false-raw) (omega arith) in omega (arith, fit.1)
-
-pub slice_bounds-all_below-end : goal.slice_bounds-all_below-end
-slice_bounds-all_below-end c =
-    let long : length c.args.sheet.now ≡ 291 = search rules in
-    let fit = lines_fit c.wide-n.result c.wide-held.result (sym c.are_unknowns.ensures ∙ not-false _ c.if-not-are_unknowns.false-raw) (omega arith) in
-    omega (arith, fit.1)
-
 pub returns-then-not-all_below : goal.returns-then-not-all_below
 returns-then-not-all_below c =
     let s = c.args.sheet.now in
@@ -72,25 +51,6 @@ returns-then-not-all_below c =
     let below =
     sym (ap (all_below (modulus_in s)) (lines_to_lem s _ refl n held)) ∙ sym c.all_below.ensures in
     sym (residues_not s modulus unknowns (omega (arith, held)) (search rules) (below ∙ not-true _ c.if-not-all_below.true-raw))
-
-pub slice_bounds-lines_fit-end-2 : goal.slice_bounds-lines_fit-end-2
-slice_bounds-lines_fit-end-2 c =
-    let long : length c.args.sheet.now ≡ 291 = search rules in
-    let fit = lines_fit c.wide-n.result c.wide-held.result (sym c.are_unknowns.ensures ∙ not-false _ c.if-not-are_unknowns.false-raw) (omega arith) in
-    omega (arith, fit.1)
-
-pub lines_fit-requires : goal.lines_fit-requires
-lines_fit-requires c =
-    let s = c.args.sheet.now in
-    let n = c.wide-n.result in
-    let held = c.wide-held.result in
-    let long : length s ≡ 291 = search rules in
-    let fit = lines_fit n held (sym c.are_unknowns.ensures ∙ not-false _ c.if-not-are_unknowns.false-raw) (omega arith) in
-    let modulus = sym c.is_modulus.ensures ∙ not-false _ c.if-not-is_modulus.false-raw in (
-      ((within_range 2 (modulus_in s) largest_modulus).0 (of_true modulus)).0,
-      fit.0,
-      as_many s n held fit.0 (omega arith) long,
-    )
 
 pub returns : goal.returns
 returns c =

@@ -3,4 +3,4 @@ use Rattle.system.specs.Ready.{zeros_ready}
 use Rattle.sheet.proofs.Sheet.mark.Goals as goal
 
 pub mark_claim-requires : goal.mark_claim-requires
-mark_claim-requires c = (c.view-view.ensures.views, zeros_ready _ _ _)
+mark_claim-requires c = zeros_ready _ _ _

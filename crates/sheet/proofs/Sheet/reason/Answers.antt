@@ -6,17 +6,18 @@ use native.Mathlib.Omega.{arith}
 use borrow.Author.Rules.{rules}
 use lib.ListN.{length, take, replicate}
 use lib.Seq.{length-take-le}
+use Rattle.std.specs.Prelude.{Ok}
+use Rattle.questions.specs.Refusals.{by_number}
+use Rattle.questions.proofs.Ladder.{handed_on}
 use Rattle.slices.specs.Over.{over}
 use Rattle.slices.proofs.Over.{over-front}
-use Rattle.equations.specs.declared.Reason.{Reason}
 use Rattle.equations.specs.Vectors.{Below}
 use Rattle.ledger.specs.Ledger.{modulus_of, unknowns_of, lines_in}
 use Rattle.ledger.specs.Allowed.{Allowed}
 use Rattle.ledger.specs.Marking.{claim_reason, reason_numbers}
 use Rattle.ledger.specs.Calls.{marks, queries}
 use Rattle.ledger.specs.Questions.{refusal_of}
-use Rattle.sheet.specs.declared.reasoning.Reasoned.{Reasoned}
-use Rattle.sheet.specs.declared.reasoning.Reasoned.TheVariants.{Gives}
+use Rattle.system.specs.declared.explaining.Finding.{Finding}
 use Rattle.sheet.specs.Record.{Sheet, ledger_of}
 use Rattle.sheet.specs.View.{explained_of, explained_numbers}
 use Rattle.sheet.proofs.Reading.{reads-allowed}
@@ -24,66 +25,64 @@ use Rattle.asking.proofs.ClaimGiven.{mark-opened}
 use Rattle.sheet.proofs.Reasoned.{said_gives, said_refused, numbers_are, numbers_below, numbers_few, reason_refused, reason-shown}
 use Rattle.sheet.proofs.Sheet.reason.Goals as goal
 
--- an accepted claim, whose reason r comes with k numbers at the front of 16
-module _ (s : Sheet) (ws : List ℕ) {r : Reason} {k : ℕ} {explained : Reasoned} (found : explained ≡ explained_of (ledger_of s) ws)
-    (is : explained ≡ Gives r k) where
-  said : (refusal_of (ledger_of s) (queries (marks ws)) ≡ 0) × (r ≡ claim_reason (ledger_of s) ws) × (k ≡ length (reason_numbers (ledger_of s) ws))
-  said = said_gives (ledger_of s) ws (sym found ∙ is)
+-- an accepted claim, of which this was found
+module _ (s : Sheet) (ws : List ℕ) {finding : Finding} (found : Ok finding ≡ explained_of (ledger_of s) ws) where
+  told : (refusal_of (ledger_of s) (queries (marks ws)) ≡ 0)
+      × (finding ≡ record { reason = claim_reason (ledger_of s) ws; len = length (reason_numbers (ledger_of s) ws) })
+  told = said_gives (ledger_of s) ws (sym found)
 
   allowed : Allowed (modulus_of (ledger_of s)) (unknowns_of (ledger_of s)) (lines_in (ledger_of s))
-  allowed = reads-allowed s (mark-opened (ledger_of s) ws said.0)
+  allowed = reads-allowed s (mark-opened (ledger_of s) ws told.0)
 
-  few : k ≤ 16
-  few = omega (arith, said.2, numbers_few (ledger_of s) ws said.0 allowed)
+  count : finding.len ≡ length (reason_numbers (ledger_of s) ws)
+  count = ap (λ (f : Finding). f.len) told.1
+
+  few : finding.len ≤ 16
+  few = omega (arith, count, numbers_few (ledger_of s) ws told.0 allowed)
 
   module _ {shown : List ℕ} (written : shown ≡ over (explained_numbers (ledger_of s) ws) (replicate 16 0)) where
-    front : take k shown ≡ reason_numbers (ledger_of s) ws
+    front : take finding.len shown ≡ reason_numbers (ledger_of s) ws
     front =
-        over-front k (reason_numbers (ledger_of s) ws) (replicate 16 0)
-        (written ∙ ap (λ (xs : List ℕ). over xs (replicate 16 0)) (numbers_are (ledger_of s) ws said.0)) (sym said.2)
+        over-front finding.len (reason_numbers (ledger_of s) ws) (replicate 16 0)
+        (written ∙ ap (λ (xs : List ℕ). over xs (replicate 16 0)) (numbers_are (ledger_of s) ws told.0)) (sym count)
 
-    below : {m : ℕ} → m ≡ modulus_of (ledger_of s) → Below m (take k shown)
-    below same = rw (same, front) (numbers_below (ledger_of s) ws said.0 allowed)
+    below : {m : ℕ} → m ≡ modulus_of (ledger_of s) → Below m (take finding.len shown)
+    below same = rw (same, front) (numbers_below (ledger_of s) ws told.0 allowed)
 
 pub slice_bounds-shown-end : goal.slice_bounds-shown-end
-slice_bounds-shown-end c =
-    let a = c.args in
-    let found = c.explain_claim-explained in
-    omega (arith, few a.sheet.now a.words.now found.ensures.value c.in-Gives.is)
+slice_bounds-shown-end c = omega (arith, few c.args.sheet.now c.args.words.now c.in_ok-finding.ensures.value)
 
 pub slice_bounds-show-end : goal.slice_bounds-show-end
 slice_bounds-show-end c =
-    let a = c.args in
-    let found = c.explain_claim-explained in
-    let room : length found.new.shown ≡ 16 = search rules in
-    sym (length-take-le _ found.new.shown
-    (omega (arith, room, few a.sheet.now a.words.now found.ensures.value c.in-Gives.is)))
+    let after = c.explain_claim.new.shown in
+    let room : length after ≡ 16 = search rules in
+    sym (length-take-le _ after (omega (arith, room, few c.args.sheet.now c.args.words.now c.in_ok-finding.ensures.value)))
 
 pub show-requires : goal.show-requires
 show-requires c =
-    let a = c.args in
-    let found = c.explain_claim-explained in
-    let modulus = c.view-view.ensures.views.sees.modulus in
-    below a.sheet.now a.words.now found.ensures.value c.in-Gives.is found.ensures.shown_after modulus
+    let found = c.in_ok-finding.ensures in
+    below c.args.sheet.now c.args.words.now found.value found.shown_after c.seen-seen.ensures.sees.modulus
 
-pub returns-in-Gives : goal.returns-in-Gives
-returns-in-Gives c =
+pub returns-in_err-finding : goal.returns-in_err-finding
+returns-in_err-finding c =
+    let a = c.args in
+    let l = ledger_of a.sheet.now in
+    let ws = a.words.now in
+    let out = c.from_residual in
+    let refusal = c.in_err-finding.field-0.0 in
+    let refused = said_refused l ws (sym c.in_err-finding.ensures.value) in
+    let both = reason_refused l ws a.buffer.now _ refused.0 refused.1 in
+    record { value = ap by_number (handed_on out.result refusal out.ensures.1) ∙ both.0; buffer_after = both.1 }
+
+pub returns : goal.returns
+returns c =
     let a = c.args in
     let s = a.sheet.now in
     let ws = a.words.now in
-    let found = c.explain_claim-explained in
-    let is = c.in-Gives.is in
-    let said = said s ws found.ensures.value is in
+    let found = c.in_ok-finding.ensures in
+    let said = told s ws found.value in
     let show = c.show in
-    let modulus = c.view-view.ensures.views.sees.modulus in
-    let shown = reason-shown (ledger_of s) ws a.buffer.now said.0 _ _ _ modulus said.1 (front s ws found.ensures.value is found.ensures.shown_after) in
+    let modulus = c.seen-seen.ensures.sees.modulus in
+    let shown = reason-shown (ledger_of s) ws a.buffer.now said.0 _ _ _ modulus (ap (λ (f : Finding). f.reason) said.1)
+    (front s ws found.value found.shown_after) in
     record { value = show.ensures.value ∙ shown.0; buffer_after = show.ensures.buffer_after ∙ shown.1 }
-
-pub returns-in-Refused : goal.returns-in-Refused
-returns-in-Refused c =
-    let a = c.args in
-    let found = c.explain_claim-explained in
-    let l = ledger_of a.sheet.now in
-    let ws = a.words.now in
-    let said = said_refused l ws (sym found.ensures.value ∙ c.in-Refused.is) in
-    let both = reason_refused l ws a.buffer.now _ said.0 said.1 in record { value = both.0; buffer_after = both.1 }

@@ -2,9 +2,8 @@
 -- behind theirs; there is room for both.
 use mathlib.Core.Path.{ap}
 use Prim.Native.Nat.{ℕ, ◌+◌}
-use native.Mathlib.Omega.{arith}
 use borrow.Author.Rules.{rules}
-use Rattle.sheet.proofs.Cells.{whole, modulus_positive, lines-within, line-room, count-within, line-written}
+use Rattle.sheet.proofs.Cells.{whole, modulus_positive, lines-within, line-room, line-written}
 use Rattle.sheet.proofs.adding.with_line.Goals as goal
 
 pub bounds-sheet-0 : goal.bounds-sheet-0
@@ -23,15 +22,6 @@ pub slice_bounds-scale_into-count : goal.slice_bounds-scale_into-count
 slice_bounds-scale_into-count c =
     lines-within c.args.sheet.now c.requires.room.0 c.wide.ensures c.wide-width.ensures
 
-pub overflow_mul-at : goal.overflow_mul-at
-overflow_mul-at c = omega (arith, slice_bounds-scale_into-count c)
-
-pub overflow_add-at : goal.overflow_add-at
-overflow_add-at c = omega (arith, slice_bounds-scale_into-count c)
-
-pub offset_bounds-sheet-at : goal.offset_bounds-sheet-at
-offset_bounds-sheet-at c = omega (arith, slice_bounds-scale_into-count c)
-
 pub slice_bounds-scale_into-start : goal.slice_bounds-scale_into-start
 slice_bounds-scale_into-start c = slice_bounds-scale_into-count c
 
@@ -43,16 +33,6 @@ scale_into-requires c =
       c.requires.residues.1,
       line-room s c.requires.room.0 c.wide.ensures c.wide-width.ensures c.args.q c.args.line.now c.requires.room.2 c.requires.room.1,
     )
-
-pub bounds-sheet-own : goal.bounds-sheet-own
-bounds-sheet-own c =
-    let under = c.requires.room.1 in
-    let long = whole c.args.sheet.now c.requires.room.0 in search rules
-
-pub bounds-sheet-2-2 : goal.bounds-sheet-2-2
-bounds-sheet-2-2 c =
-    count-within c.args.sheet.now c.requires.room.0 c.wide.ensures c.wide-width.ensures c.args.q c.args.line.now c.requires.room.2
-    c.requires.room.1 (3 + c.wide-own.result) (ap (λ (k : ℕ). 3 + k) c.wide-own.ensures) c.scale_into.ensures
 
 pub returns : goal.returns
 returns c =

@@ -1,5 +1,4 @@
--- `copying::move_up` meets its contract. The invariant: the first k numbers are moved, those behind them as they were. The measure is
--- what is left.
+-- `copying::move_up` meets its contract. The invariant: the first k numbers are moved, those behind them as they were.
 use native.Mathlib.Omega.{arith}
 use lib.ListN.{take, drop}
 use Rattle.slices.proofs.Copied.{copied_none, copied_more, copied_all, moving_length, moving_next}

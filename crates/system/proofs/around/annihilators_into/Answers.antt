@@ -4,7 +4,6 @@ use mathlib.Core.List.{List}
 use Prim.Native.Nat.{ℕ, ◌+◌, ◌*◌, ◌/◌, ◌≤◌}
 use native.Mathlib.Omega.{arith}
 use lib.ListN.{length, take, replicate}
-use lib.Seq.{length-take-le}
 use Rattle.equations.specs.Vectors.{Vector}
 use Rattle.equations.proofs.Combine.{vector_zeros}
 use Rattle.system.specs.Model.Reading.{Laid}
@@ -22,10 +21,6 @@ zeros_lent n few = lent_zeros n 16 n refl few
 room : (n : ℕ) (steps : List ℕ) → n ≤ 16 → length steps ≤ 16 * n → length steps / n * (n + 1) ≤ 272
 room n steps few short = lines-few (length steps / n) n (steps_few n steps short) few
 
-pub slice_bounds-through_into-end : goal.slice_bounds-through_into-end
-slice_bounds-through_into-end c =
-    sym (length-take-le c.args.n (replicate {A = ℕ} 16 0) c.requires.2)
-
 pub through_into-requires : goal.through_into-requires
 through_into-requires c =
     let a = c.args in
@@ -37,19 +32,6 @@ through_into-requires c =
       c.requires.3,
       omega (arith, through-length a.m a.n zeros a.steps.now c.requires.3, room a.n a.steps.now c.requires.2 c.requires.4),
     )
-
-pub overflow_mul-size : goal.overflow_mul-size
-overflow_mul-size c =
-    omega (arith, room c.args.n c.args.steps.now c.requires.2 c.requires.4)
-
-pub slice_bounds-level-end : goal.slice_bounds-level-end
-slice_bounds-level-end c =
-    omega (arith, room c.args.n c.args.steps.now c.requires.2 c.requires.4, c.through_into.auto.lines)
-
-pub slice_bounds-generators_into-end : goal.slice_bounds-generators_into-end
-slice_bounds-generators_into-end c =
-    sym (length-take-le _ c.through_into.new.lines
-    (omega (arith, room c.args.n c.args.steps.now c.requires.2 c.requires.4, c.through_into.auto.lines)))
 
 pub generators_into-requires : goal.generators_into-requires
 generators_into-requires c =

@@ -18,6 +18,8 @@ use Rattle.tableau.proofs.Lines.{below_lent}
 use Rattle.system.specs.declared.explaining.Finding.{Finding}
 use Rattle.system.specs.Claims.{Claimed, vectors_of}
 use Rattle.system.specs.Reasons.{shown_with, finding_of}
+use Rattle.system.proofs.Placed.{placed_some}
+use Rattle.system.proofs.Changes.{change_none_is}
 use Rattle.system.proofs.Marks.{claim_front, claim_of_none, claim_of_some, start_right, steps_right}
 use Rattle.system.proofs.Explained.{explained, explained_broken, reason_changes}
 use Rattle.system.proofs.explaining.explain.Goals as goal
@@ -44,75 +46,60 @@ returns-then-claim-eq0 c =
     let both = turned a.m a.n (equations_of a.n a.lines.now) a.shown.now (sym (claim_of_none a.n a.claim.now c.if-claim-eq0.true))
     (c.explain_none.ensures.value, c.explain_none.ensures.shown_after) in record { value = both.0; shown_after = both.1 }
 
-pub slice_bounds-start-end : goal.slice_bounds-start-end
-slice_bounds-start-end c =
-    sym (start-long c.args.m c.args.n c.args.claim.now c.requires.1 c.if-claim-eq0.false)
-
-pub slice_bounds-steps-count : goal.slice_bounds-steps-count
-slice_bounds-steps-count c =
-    claim_front c.args.m c.args.n c.args.claim.now c.requires.1 c.if-claim-eq0.false
-
-pub slice_bounds-steps-start : goal.slice_bounds-steps-start
-slice_bounds-steps-start c = slice_bounds-steps-count c
-
-pub first_broken-broken-requires : goal.first_broken-broken-requires
-first_broken-broken-requires c =
+pub first_broken-requires : goal.first_broken-requires
+first_broken-requires c =
     let a = c.args in
     let claim = a.claim.now in
-    (c.requires.0, start-long a.m a.n claim c.requires.1 c.if-claim-eq0.false, below-take a.m a.n claim c.requires.1.residues)
+    (start-long a.m a.n claim c.requires.1 c.if-claim-eq0.false, below-take a.m a.n claim c.requires.1.residues)
 
-pub returns-then-broken-ne0 : goal.returns-then-broken-ne0
-returns-then-broken-ne0 c =
+pub returns-in-Some : goal.returns-in-Some
+returns-in-Some c =
     let a = c.args in
     let es = equations_of a.n a.lines.now in
     let claim = a.claim.now in
-    let broken = c.first_broken-broken in
+    let broken = placed_some _ c.in-Some.broken c.in-Some.ensures in
     let found = c.explain_broken in
     let both = turned a.m a.n es a.shown.now (claim_of_some a.n claim c.if-claim-eq0.false)
-    (explained_broken a.m a.n es (take a.n claim) (vectors_of a.n (lent a.n claim)) broken.result broken.ensures
-    c.if-broken-ne0.true found.result a.shown.now found.ensures.reason_value found.ensures.shown_after) in record { value = both.0; shown_after = both.1 }
+    (explained_broken a.m a.n es (take a.n claim) (vectors_of a.n (lent a.n claim)) c.in-Some.broken broken.0
+    broken.1 found.result a.shown.now found.ensures.reason_value found.ensures.shown_after) in record { value = both.0; shown_after = both.1 }
 
-pub first_change-change-requires : goal.first_change-change-requires
-first_change-change-requires c =
+pub first_change-requires : goal.first_change-requires
+first_change-requires c =
     let a = c.args in
     let claim = a.claim.now in (
-      c.requires.0,
       below_lent a.m a.n claim c.requires.1.residues,
       omega (arith, lent_length a.n claim, c.requires.1.vectors),
     )
 
-pub returns-then-change-ne0 : goal.returns-then-change-ne0
-returns-then-change-ne0 c =
+pub returns-in-Some-first_change : goal.returns-in-Some-first_change
+returns-in-Some-first_change c =
     let a = c.args in
     let es = equations_of a.n a.lines.now in
     let claim = a.claim.now in
     let ss = vectors_of a.n (lent a.n claim) in
     let some = c.if-claim-eq0.false in
-    let broken = c.first_broken-broken in
-    let change = c.first_change-change in
+    let change = c.in-Some-first_change.change in
     let both = turned a.m a.n es a.shown.now (claim_of_some a.n claim some)
-    (explained a.m a.n es (from (take a.n claim) ss) (Changes change.result.step change.result.line)
+    (explained a.m a.n es (from (take a.n claim) ss) (Changes change.step change.line)
     (reason_changes a.m a.n es (take a.n claim) ss (omega (arith, c.requires.0.modulus)) (equations-shaped a.n a.lines.now)
-    (start_vector a.m a.n claim c.requires.1 some) (start_right a.m es (take a.n claim) broken.result broken.ensures c.if-broken-ne0.false)
-    change.result.step change.result.line change.ensures.0 change.ensures.1 c.if-change-ne0.true) a.shown.now 0 refl refl) in record { value = both.0; shown_after = both.1 }
+    (start_vector a.m a.n claim c.requires.1 some) (start_right a.m es (take a.n claim) c.in_default.ensures)
+    change (c.in-Some-first_change.ensures)) a.shown.now 0 refl refl) in record { value = both.0; shown_after = both.1 }
 
 pub explain_missing-requires : goal.explain_missing-requires
 explain_missing-requires c =
     let a = c.args in
     let es = equations_of a.n a.lines.now in
     let claim = a.claim.now in
-    let broken = c.first_broken-broken in
-    let change = c.first_change-change in record {
-      posed = (
-        c.requires.0,
+    record {
+      formed = (
         start_vector a.m a.n claim c.requires.1 c.if-claim-eq0.false,
         below_lent a.m a.n claim c.requires.1.residues,
         omega (arith, lent_length a.n claim, c.requires.1.vectors),
         c.requires.2,
       );
       start_value = (
-        start_right a.m es (take a.n claim) broken.result broken.ensures c.if-broken-ne0.false,
-        steps_right a.m es (vectors_of a.n (lent a.n claim)) change.result.step change.ensures.0 c.if-change-ne0.false,
+        start_right a.m es (take a.n claim) c.in_default.ensures,
+        steps_right a.m es (vectors_of a.n (lent a.n claim)) (change_none_is _ _ c.in_default-first_change.ensures),
       );
     }
 

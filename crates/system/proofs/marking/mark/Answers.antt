@@ -1,16 +1,11 @@
 -- `marking::mark` meets its contract: each way out has the outcomes of the parts that lead to it.
 use mathlib.Core.Path.{refl, sym, ◌∙◌}
-use native.Mathlib.Omega.{arith}
 use borrow.Author.Tests.{not-true, not-false}
 use Rattle.system.specs.Ready.Kept.{prepared_ready}
 use Rattle.system.proofs.Marks.{not_solved, solved, mark-fails, mark-right}
 use Rattle.system.proofs.Claims.{claim_right_for}
-use Rattle.system.proofs.Prepared.{room_within, room-length, prepared_front}
+use Rattle.system.proofs.Prepared.{prepared_front}
 use Rattle.system.proofs.marking.mark.Goals as goal
-
-pub claim_solves-requires : goal.claim_solves-requires
-claim_solves-requires c =
-    (c.requires.0, c.requires.2)
 
 -- something that is described does not solve the lines
 pub returns-then-not-claim_solves : goal.returns-then-not-claim_solves
@@ -22,35 +17,6 @@ returns-then-not-claim_solves c =
           refl;
       ready = c.requires.1;
     }
-
-pub prepare-requires : goal.prepare-requires
-prepare-requires c =
-    (c.requires.0, c.requires.1)
-
-pub slice_bounds-basis-end : goal.slice_bounds-basis-end
-slice_bounds-basis-end c =
-    let a = c.args in
-    let size = c.packed_size-size in
-    room_within a.m a.n a.lines.now _ c.requires.0.unknowns (prepared_ready _ _ _ _ c.prepare.ensures) size.result size.ensures
-
-pub slice_bounds-basis-end-2 : goal.slice_bounds-basis-end-2
-slice_bounds-basis-end-2 c =
-    let a = c.args in
-    let size = c.packed_size-size in
-    size.ensures
-    ∙ sym (room-length a.m a.n a.lines.now _ c.requires.0.unknowns (prepared_ready _ _ _ _ c.prepare.ensures) size.result size.ensures)
-
-pub misses_none-requires : goal.misses_none-requires
-misses_none-requires c =
-    let a = c.args in
-    let posed = c.requires.0 in
-    let size = c.packed_size-size in (
-      omega (arith, posed.modulus),
-      posed.has_unknowns,
-      posed.unknowns,
-      room-length a.m a.n a.lines.now _ posed.unknowns (prepared_ready _ _ _ _ c.prepare.ensures) size.result size.ensures,
-      c.requires.2,
-    )
 
 -- a solution is missing
 pub returns-then-not-misses_none : goal.returns-then-not-misses_none
@@ -68,18 +34,6 @@ returns-then-not-misses_none c =
       ready = prepared_ready _ _ _ _ there;
     }
 
-pub long_at-step-requires : goal.long_at-step-requires
-long_at-step-requires c =
-    let a = c.args in
-    let posed = c.requires.0 in
-    let size = c.packed_size-size in (
-      posed.modulus,
-      posed.has_unknowns,
-      posed.unknowns,
-      room-length a.m a.n a.lines.now _ posed.unknowns (prepared_ready _ _ _ _ c.prepare.ensures) size.result size.ensures,
-      c.requires.2,
-    )
-
 -- it is right
 pub returns : goal.returns
 returns c =
@@ -93,8 +47,7 @@ returns c =
     let right = solved a.m a.n a.lines.now a.claim.now c.requires.0 c.requires.2 first.result first.ensures
     (not-false _ c.if-not-claim_solves.false-raw) _ based.rows second.result second.ensures in
     let yes = not-false _ c.if-not-misses_none.false-raw in record {
-      value = c.right_mark.ensures
-          ∙ mark-right a.m a.n _ _ second.result right yes long.result
-          (long.ensures _ (claim_right_for a.m a.n a.lines.now a.claim.now c.requires.2 _ based.rows (sym right ∙ yes)));
+      value = c.right_mark.ensures _ (long.ensures _ (claim_right_for a.m a.n a.lines.now a.claim.now c.requires.2 _ based.rows (sym right ∙ yes)))
+          ∙ mark-right a.m a.n _ _ second.result right yes _ refl;
       ready = prepared_ready _ _ _ _ there;
     }

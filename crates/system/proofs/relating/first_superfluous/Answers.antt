@@ -1,11 +1,11 @@
 -- `relating::first_superfluous` meets its contract: the system of the relations lies in the front of an array of zeros, and its answer tells the step.
-use mathlib.Core.Path.{◌≡◌, refl, sym, ◌∙◌}
+use mathlib.Core.Path.{◌≡◌, refl, ap, ◌∙◌}
 use mathlib.Core.List.{List}
 use Prim.Native.Nat.{ℕ, ◌+◌, ◌*◌, ◌/◌, ◌≤◌}
 use native.Mathlib.Omega.{arith}
 use lib.ListN.{length, take, replicate}
 use lib.Seq.{length-take-le}
-use Rattle.slices.proofs.Parts.{joined-fit, relent_length}
+use Rattle.system.specs.Places.{placed}
 use Rattle.system.proofs.Fronts.{lent_zeros}
 use Rattle.system.proofs.Generators.{vectors-count, steps_few, lines-room, none_found, relations-posed, place_found}
 use Rattle.system.proofs.relating.first_superfluous.Goals as goal
@@ -20,22 +20,6 @@ returns-then-k-eq0 c =
     let a = c.args in
     none_found a.m a.n a.steps.now c.if-k-eq0.true
 
-pub overflow_add-size : goal.overflow_add-size
-overflow_add-size c =
-    omega (arith, steps_few c.args.n c.args.steps.now c.requires.4)
-
-pub overflow_mul-size : goal.overflow_mul-size
-overflow_mul-size c =
-    omega (arith, lines-room c.args.n c.args.steps.now c.requires.2 c.requires.4)
-
-pub slice_bounds-lines-end : goal.slice_bounds-lines-end
-slice_bounds-lines-end c =
-    lines-room c.args.n c.args.steps.now c.requires.2 c.requires.4
-
-pub slice_bounds-relations_into-end : goal.slice_bounds-relations_into-end
-slice_bounds-relations_into-end c =
-    sym (length-take-le _ (replicate 272 0) (lines-room c.args.n c.args.steps.now c.requires.2 c.requires.4))
-
 pub relations_into-requires : goal.relations_into-requires
 relations_into-requires c =
     let a = c.args in
@@ -45,18 +29,6 @@ relations_into-requires c =
       vectors-count a.n steps,
       lent_zeros _ 272 _ refl (lines-room a.n steps c.requires.2 c.requires.4),
     )
-
-pub slice_bounds-lines-end-2 : goal.slice_bounds-lines-end-2
-slice_bounds-lines-end-2 c =
-    let lines = c.relations_into in
-    let size = long c.args.n c.args.steps.now lines.new.lines c.requires.2 c.requires.4 lines.auto.lines in
-    joined-fit _ (replicate 272 0) lines.new.lines size
-
-pub slice_bounds-first_unit-end : goal.slice_bounds-first_unit-end
-slice_bounds-first_unit-end c =
-    let lines = c.relations_into in
-    let size = long c.args.n c.args.steps.now lines.new.lines c.requires.2 c.requires.4 lines.auto.lines in
-    sym (relent_length _ (replicate 272 0) lines.new.lines size)
 
 pub first_unit-requires : goal.first_unit-requires
 first_unit-requires c =
@@ -73,5 +45,5 @@ returns c =
     let lines = c.relations_into in
     let size = long a.n a.steps.now lines.new.lines c.requires.2 c.requires.4 lines.auto.lines in
     c.first_unit.ensures
-    ∙ place_found a.m a.n (length a.steps.now / a.n) lines.new.lines _ size a.steps.now (omega (arith, c.requires.0)) c.requires.3
-    (vectors-count a.n a.steps.now) lines.ensures.lines_after
+    ∙ ap placed (place_found a.m a.n (length a.steps.now / a.n) lines.new.lines _ size a.steps.now (omega (arith, c.requires.0)) c.requires.3
+    (vectors-count a.n a.steps.now) lines.ensures.lines_after)

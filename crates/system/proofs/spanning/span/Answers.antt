@@ -1,5 +1,5 @@
 -- `spanning::span` meets its contract: the steps are plain lines.
-use mathlib.Core.Path.{◌≡◌, refl, ap, ◌∙◌}
+use mathlib.Core.Path.{◌≡◌, ap, ◌∙◌}
 use mathlib.Core.Bool.{true}
 use mathlib.Core.List.{List}
 use Prim.Native.Nat.{ℕ, ◌+◌, ◌-◌}
@@ -18,13 +18,6 @@ spanned : (m n j : ℕ) (b s : List ℕ) → j + 1 ≡ n → rows (j + 1) (j + 1
 spanned m n j b s e same =
     rw (← e) (rows_alone (j + 1) (j + 1) b (basis m (j + 1) 0 (vectors_of (j + 1) s))
     (same ∙ ap (basis m (j + 1) 0) (vectors-plain m j 0 0 s)))
-
-pub fill-requires : goal.fill-requires
-fill-requires c =
-    let j = c.args.n - 1 in
-    let e : j + 1 ≡ c.args.n = omega arith in
-    let f : j + 1 + 0 ≡ c.args.n = omega arith in
-    record { loadable = ((c.requires.0, refl), omega arith, omega arith); basis_value = (rw (f, e) c.requires.3, c.requires.4) }
 
 pub returns : goal.returns
 returns c =

@@ -1,38 +1,15 @@
 -- `wanting::lines_for` meets its contract.
-use mathlib.Core.Path.{sym}
-use Prim.Native.Nat.{◌+◌}
-use native.Mathlib.Nat.{mul-le-mul}
 use native.Mathlib.Omega.{arith}
-use lib.ListN.{take}
 use Rattle.slices.proofs.Parts.{lent_length}
-use Rattle.equations.proofs.Vectors.{vector-length}
 use Rattle.tableau.proofs.Lines.{below_lent}
-use Rattle.system.proofs.Marks.{claim_front}
 use Rattle.system.proofs.Claims.{claim_start}
 use Rattle.system.proofs.Through.{for_none, for_some}
 use Rattle.system.proofs.wanting.lines_for.Goals as goal
-
-pub contradiction_into-requires : goal.contradiction_into-requires
-contradiction_into-requires c =
-    let n = c.args.n in
-    omega (arith, mul-le-mul {n₁ = 1} {m₁ = n + 1} {n₂ = n} {m₂ = n + 1} c.requires.1 (omega arith), c.requires.4)
 
 pub returns-then-claim-eq0 : goal.returns-then-claim-eq0
 returns-then-claim-eq0 c =
     let a = c.args in
     let both = for_none a.m a.n a.claim.now a.lines.now c.if-claim-eq0.true c.contradiction_into.ensures in record { value = both.0; lines_after = both.1 }
-
-pub slice_bounds-lines_around-end : goal.slice_bounds-lines_around-end
-slice_bounds-lines_around-end c =
-    let a = c.args in
-    sym (vector-length a.m a.n (take a.n a.claim.now) (claim_start a.m a.n a.claim.now c.requires.3 c.if-claim-eq0.false))
-
-pub slice_bounds-lines_around-count : goal.slice_bounds-lines_around-count
-slice_bounds-lines_around-count c =
-    claim_front c.args.m c.args.n c.args.claim.now c.requires.3 c.if-claim-eq0.false
-
-pub slice_bounds-lines_around-start : goal.slice_bounds-lines_around-start
-slice_bounds-lines_around-start c = slice_bounds-lines_around-count c
 
 pub lines_around-requires : goal.lines_around-requires
 lines_around-requires c =

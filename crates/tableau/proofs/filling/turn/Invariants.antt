@@ -1,15 +1,8 @@
--- `filling::turn` meets its contract. The invariant: the last i entries are the first i of x, turned round. The measure is
--- what is left.
-use mathlib.Core.Path.{◌≡◌}
-use mathlib.Core.List.{[], ◌++◌}
-use Prim.Native.Nat.{◌-◌, ◌≤◌}
+-- `filling::turn` meets its contract. The invariant: the first i entries of the reversed list are written, and behind them `out` is as it was.
+use mathlib.Core.List.{reverse}
 use lib.ListN.{length, take}
-use Rattle.elimination.specs.Tableau.{turned}
+use Rattle.slices.proofs.Copied.{Copied}
 use Rattle.tableau.proofs.filling.turn.Given as goal
 
 abbrev pub invariant-loop-i : goal.invariant-loop-i
-invariant-loop-i l =
-    (l.i ≤ l.n) × (l.n ≡ length l.initial.out) × (length l.out ≡ l.n) × (l.out ≡ take (l.n - l.i) l.initial.out ++ turned l.i l.x [])
-
-abbrev pub decreases-loop-i : goal.decreases-loop-i
-decreases-loop-i l = l.n - l.i
+invariant-loop-i l = Copied l.i (reverse (take (length l.initial.out) l.x)) l.initial.out l.out

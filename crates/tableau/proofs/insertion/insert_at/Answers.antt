@@ -3,37 +3,13 @@ use mathlib.Core.Path.{refl, sym, ap, ◌∙◌, subst}
 use Prim.Native.Nat.{ℕ, ◌-◌, ◌%◌}
 use native.Mathlib.Omega.{arith}
 use lib.ListN.{get_or}
-use native.Mathlib.Nat.{div-le_self}
 use Rattle.residue.specs.Negative.{negative}
 use Rattle.equations.specs.Vectors.{combine, Below}
 use Rattle.equations.proofs.Vectors.{below_at, below-drop}
 use Rattle.slices.proofs.Parts.{lent, lent_is, lent_length}
-use Rattle.tableau.proofs.Column.{row_head, row_rest, divided, quotient_le, reduction}
-use Rattle.tableau.proofs.Column.{column-zero, column-divided, column-reduced, not_both}
+use Rattle.tableau.proofs.Column.{row_rest, quotient_le, reduction}
+use Rattle.tableau.proofs.Column.{column-divided, column-reduced, not_both}
 use Rattle.tableau.proofs.insertion.insert_at.Goals as goal
-
-pub divide_by_pivot-division-requires : goal.divide_by_pivot-division-requires
-divide_by_pivot-division-requires c =
-    omega (arith, row_head c.args.m c.args.row.now c.requires.0 c.requires.2)
-
-pub reduce-requires : goal.reduce-requires
-reduce-requires c =
-    let R = c.args.row.now in
-    let W = c.args.line.now in (
-      omega (arith, below_at c.args.m 0 W c.requires.3 (omega arith), div-le_self (get_or W 0 0) (get_or R 0 0)),
-      lent_length 1 R ∙ ap (λ (n : ℕ). n - 1) c.requires.1 ∙ sym (lent_length 1 W),
-      subst (Below c.args.m) (sym (lent_is 1 W)) (below-drop c.args.m 1 W c.requires.3),
-      c.requires.4,
-    )
-
-pub cofactors-c-requires : goal.cofactors-c-requires
-cofactors-c-requires c =
-    let d = get_or c.args.row.now 0 0 in
-    let v = get_or c.args.line.now 0 0 in
-    let pos = row_head c.args.m c.args.row.now c.requires.0 c.requires.2 in
-    let k = c.divide_by_pivot-division in
-    let e = divided v d k.result.quotient k.result.remainder pos.0 k.ensures.0 k.ensures.1 in
-    (omega (arith, pos), omega arith, e.0, λ _. e.1)
 
 pub combine_both-requires : goal.combine_both-requires
 combine_both-requires c =
@@ -44,14 +20,12 @@ combine_both-requires c =
       omega arith,
       omega (
         arith,
-        below_at c.args.m 0 W c.requires.3 (omega arith),
-        quotient_le c.args.m (get_or R 0 0) (get_or W 0 0) f.result f.ensures.value,
+        below_at c.args.modulus.m 0 W c.requires.3 (omega arith),
+        quotient_le c.args.modulus.m (get_or R 0 0) (get_or W 0 0) f.result f.ensures.value,
       ),
-      omega arith,
       lent_length 1 R ∙ ap (λ (n : ℕ). n - 1) c.requires.1 ∙ sym (lent_length 1 W),
-      c.requires.4,
-      subst (Below c.args.m) (sym (lent_is 1 R)) (row_rest c.args.m R c.requires.2),
-      subst (Below c.args.m) (sym (lent_is 1 W)) (below-drop c.args.m 1 W c.requires.3),
+      subst (Below c.args.modulus.m) (sym (lent_is 1 R)) (row_rest c.args.modulus.m R c.requires.2),
+      subst (Below c.args.modulus.m) (sym (lent_is 1 W)) (below-drop c.args.modulus.m 1 W c.requires.3),
     )
 
 pub returns-then-rest-eq0 : goal.returns-then-rest-eq0
@@ -61,11 +35,11 @@ returns-then-rest-eq0 c =
     let R = a.row.now in
     let W = a.line.now in
     let k = c.reduce in record {
-      inserted = λ _. column-divided a.m R W k.new.line
+      inserted = λ _. column-divided a.modulus.m R W k.new.line
           c.requires.0 c.requires.1 c.requires.2 c.requires.3 (omega arith)
           (sym q.ensures.1 ∙ c.if-rest-eq0.true)
           (k.ensures
-          ∙ ap (λ (p : ℕ). combine a.m p (negative a.m 1 % a.m) (lent 1 R) (lent 1 W)) q.ensures.0);
+          ∙ ap (λ (p : ℕ). combine a.modulus.m p (negative a.modulus.m 1 % a.modulus.m) (lent 1 R) (lent 1 W)) q.ensures.0);
       used_up = λ e. not_both e refl;
     }
 
@@ -75,17 +49,12 @@ returns-else-rest-eq0 c =
     let a = c.args in
     let f = c.cofactors-c in
     let k = c.combine_both in
-    let n = c.negate in record {
-      inserted = λ _. column-reduced a.m f.result.divisor f.result.s f.result.t f.result.p n.result
+    let n = negative a.modulus.m f.result.q % a.modulus.m in record {
+      inserted = λ _. column-reduced a.modulus.m f.result.divisor f.result.s f.result.t f.result.p n
           a.row.now a.line.now k.new.row k.new.line
           c.requires.0 c.requires.1 c.requires.2 c.requires.3 (omega (arith, c.if-v-gt0.true))
           (λ e. c.if-rest-eq0.false (q.ensures.1 ∙ e))
-          (reduction a.m (get_or a.row.now 0 0) (get_or a.line.now 0 0) f.result n.result f.ensures.value
-          n.ensures.0)
+          (reduction a.modulus.m (get_or a.row.now 0 0) (get_or a.line.now 0 0) f.result n f.ensures.value refl)
           k.ensures.row_after k.ensures.line_after;
       used_up = λ e. not_both e refl;
     }
-
-pub returns-else-v-gt0 : goal.returns-else-v-gt0
-returns-else-v-gt0 c =
-    record { inserted = λ _. column-zero c.args.m c.args.row.now c.args.line.now c.requires.0 c.requires.1 c.requires.2 c.requires.3 (omega arith); used_up = λ e. not_both e refl }

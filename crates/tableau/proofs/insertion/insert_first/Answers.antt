@@ -2,12 +2,8 @@
 use mathlib.Core.Path.{refl}
 use native.Mathlib.Omega.{arith}
 use Rattle.equations.proofs.Vectors.{below_at}
-use Rattle.tableau.proofs.Column.{row_head, column-first, column_used_up, not_both}
+use Rattle.tableau.proofs.Column.{column-first, column_used_up, not_both}
 use Rattle.tableau.proofs.insertion.insert_first.Goals as goal
-
-pub cofactors-c-requires : goal.cofactors-c-requires
-cofactors-c-requires c =
-    omega (arith, row_head c.args.m c.args.row.now c.requires.row_nonzero.0 c.requires.row_nonzero.2)
 
 pub returns-then-g-eq1 : goal.returns-then-g-eq1
 returns-then-g-eq1 c =
@@ -15,9 +11,9 @@ returns-then-g-eq1 c =
     let f = c.cofactors-c in
     let k = c.multiple in record {
       inserted = λ e. not_both refl e;
-      used_up = λ _. column_used_up a.m f.result a.row.now a.line.now k.new.row
+      used_up = λ _. column_used_up a.modulus.m f.result a.row.now a.line.now k.new.row
           c.requires.row_nonzero.0 c.requires.row_nonzero.1 c.requires.row_nonzero.2 c.requires.row_nonzero.3 c.requires.row_value.0 c.requires.row_value.1
-          (below_at a.m 0 a.line.now c.requires.row_nonzero.3 (omega arith)) f.ensures.value (omega arith) k.ensures;
+          (below_at a.modulus.m 0 a.line.now c.requires.row_nonzero.3 (omega arith)) f.ensures.value (omega arith) k.ensures;
     }
 
 pub returns : goal.returns
@@ -27,9 +23,9 @@ returns c =
     let k = c.multiple in
     let n = c.negate in
     let l = c.scale in record {
-      inserted = λ _. column-first a.m f.result n.result a.row.now a.line.now k.new.row l.new.line
+      inserted = λ _. column-first a.modulus.m f.result n.result a.row.now a.line.now k.new.row l.new.line
           c.requires.row_nonzero.0 c.requires.row_nonzero.1 c.requires.row_nonzero.2 c.requires.row_nonzero.3 c.requires.row_value.0 c.requires.row_value.1
-          (below_at a.m 0 a.line.now c.requires.row_nonzero.3 (omega arith)) f.ensures.value n.ensures.0 k.ensures
+          (below_at a.modulus.m 0 a.line.now c.requires.row_nonzero.3 (omega arith)) f.ensures.value n.ensures.0 k.ensures
           l.ensures;
       used_up = λ e. not_both e refl;
     }

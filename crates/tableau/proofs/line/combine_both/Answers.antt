@@ -1,31 +1,22 @@
--- `line::combine_both` meets its contract. The invariant: the first i entries of both are combined, the others as they
--- were. The measure is what is left.
+-- `line::combine_both` meets its contract: the next entries are still those of the two lists as they were, and so residues.
 use native.Mathlib.Omega.{arith}
-use borrow.Author.Rules.{rules}
-use Rattle.tableau.proofs.Combined.{both_start, both_below, both_next, both_end}
+use Rattle.tableau.proofs.Combined.{both_below, both_next}
 use Rattle.tableau.proofs.line.combine_both.Goals as goal
 
-pub loop-i-init : goal.loop-i-init
-loop-i-init c = both_start _ _ _ _ _ _ _
+pub combine-requires : goal.combine-requires
+combine-requires c =
+    let below = both_below _ _ _ _ _ _ _ _ _ _ (omega arith) (omega arith) c.requires.4 c.requires.5 c.loop-i.invariant in
+    rw c.factor-s.ensures.1 (c.factor-t.ensures.1, below.0, below.1)
 
-pub combine_by-x-requires : goal.combine_by-x-requires
-combine_by-x-requires c =
-    let l = c.loop-i in
-    let read = both_below _ _ _ _ _ _ _ _ _ _ (omega arith) (omega arith) c.requires.6 c.requires.7 l.invariant in
-    search (rules, read)
-
-pub combine_by-y-requires : goal.combine_by-y-requires
-combine_by-y-requires c =
-    let l = c.loop-i in
-    let read = both_below _ _ _ _ _ _ _ _ _ _ (omega arith) (omega arith) c.requires.6 c.requires.7 l.invariant in
-    search (rules, read)
+pub combine-requires-in-loop-i : goal.combine-requires-in-loop-i
+combine-requires-in-loop-i c =
+    let below = both_below _ _ _ _ _ _ _ _ _ _ (omega arith) (omega arith) c.requires.4 c.requires.5 c.loop-i.invariant in
+    rw c.factor-p.ensures.1 (c.factor-n.ensures.1, below.0, below.1)
 
 pub loop-i-preserved : goal.loop-i-preserved
 loop-i-preserved c =
-    let l = c.loop-i in
-    both_next _ _ _ _ _ _ _ _ _ _ _ _ (omega arith) (omega arith) l.invariant c.combine_by-x.ensures.0 c.combine_by-y.ensures.0
-
-pub returns : goal.returns
-returns c =
-    let l = c.loop-i in
-    let both = both_end _ _ _ _ _ _ _ l.i _ _ (omega arith) (omega arith) l.invariant in record { row_after = both.0; line_after = both.1 }
+    let s = c.factor-s.ensures in
+    let p = c.factor-p.ensures in
+    both_next _ _ _ _ _ _ _ _ _ _ (omega arith) (omega arith) _ _ c.loop-i.invariant
+    (rw (s.0, c.factor-t.ensures.0, s.1) at c.combine.ensures.0)
+    (rw (p.0, c.factor-n.ensures.0, c.negate.ensures.0, p.1) at c.combine-in-loop-i.ensures.0)

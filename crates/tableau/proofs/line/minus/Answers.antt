@@ -7,13 +7,13 @@ use Rattle.tableau.proofs.line.minus.Goals as goal
 pub returns-then-b-x : goal.returns-then-b-x
 returns-then-b-x c =
     let a = c.args in
-    let x = c.mul_by-x in
-    (minus_is a.m a.p a.a a.b (x.result - a.b) 0 (omega arith) (omega (arith, x.ensures.0)), omega arith)
+    let x = c.times-x in
+    (minus_is a.p.m a.p.value a.a a.b (x.result - a.b) 0 (omega arith) (omega (arith, x.ensures.0)), omega arith)
 
 pub returns-else-b-x : goal.returns-else-b-x
 returns-else-b-x c =
     let a = c.args in
-    let x = c.mul_by-x in (
-      minus_is a.m a.p a.a a.b (x.result + (a.m - a.b)) 1 (omega arith) (omega (arith, x.ensures.0)),
+    let x = c.times-x in (
+      minus_is a.p.m a.p.value a.a a.b (x.result + (a.p.m - a.b)) 1 (omega arith) (omega (arith, x.ensures.0)),
       omega arith,
     )

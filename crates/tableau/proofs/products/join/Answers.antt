@@ -1,15 +1,7 @@
 -- `products::join` meets its contract: the remainder of the high sum, with what the low one carries, stands for both.
-use mathlib.Core.Path.{◌≡◌, ◌∙◌}
-use Prim.Native.Nat.{◌+◌, ◌*◌}
-use native.Mathlib.Omega.{arith}
+use mathlib.Core.Path.{◌∙◌}
 use Rattle.tableau.proofs.Sums.{join_is}
 use Rattle.tableau.proofs.products.join.Goals as goal
-
-pub returns-then-high-eq0 : goal.returns-then-high-eq0
-returns-then-high-eq0 c =
-    let a = c.args in
-    let e : a.low + a.high * 4294967296 ≡ a.low = omega arith in
-    rw e c.reduce.ensures.0
 
 pub returns-else-high-eq0 : goal.returns-else-high-eq0
 returns-else-high-eq0 c =

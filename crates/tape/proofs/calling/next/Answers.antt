@@ -1,21 +1,12 @@
 -- `calling::next` meets its contract: the words that the first one wants, or all that are left, are the call's.
-use mathlib.Core.Path.{◌≡◌, sym, ap, ◌∙◌}
+use mathlib.Core.Path.{ap, ◌∙◌}
 use Prim.Native.Nat.{ℕ, ◌*◌}
-use native.Mathlib.Omega.{arith}
 use lib.ListN.{length}
-use lib.Seq.{length-take-le}
 use Rattle.words.specs.Fronts.{front}
 use Rattle.sheet.specs.Record.{ledger_of}
 use Rattle.tape.specs.Bytes.{words_on}
 use Rattle.tape.proofs.Picked.{next_wants, next_call, stepped}
-use borrow.Author.Rules.{rules}
 use Rattle.tape.proofs.calling.next.Goals as goal
-
-pub slice_bounds-call-end : goal.slice_bounds-call-end
-slice_bounds-call-end c =
-    let taken = c.take_words-count in
-    let room : length taken.new.taken ≡ 546 = search rules in
-    sym (length-take-le taken.result taken.new.taken (omega (arith, room, taken.ensures.value.1)))
 
 pub returns : goal.returns
 returns c =

@@ -1,13 +1,18 @@
 -- `running::write` meets its contract. The invariant: the lines of the calls so far are at the front of out, in `at` bytes. The
 -- measure is the length of the rest.
-use mathlib.Core.Path.{◌≡◌}
-use lib.ListN.{length}
-use Rattle.tape.proofs.Written.{Written}
+use Rattle.std.proofs.Common.{◌≡◌, ◌++◌, ℕ, List, length}
+use Rattle.slices.specs.Over.{over}
+use Rattle.tape.specs.Output.{lines}
+use Rattle.tape.specs.Run.{to_print}
 use Rattle.tape.proofs.running.write.Given as goal
 
-abbrev pub invariant-loop-rest : goal.invariant-loop-rest
-invariant-loop-rest l =
-    (length l.told ≡ 4096) × (length l.out ≡ length l.initial.out) × Written l.tape l.initial.out l.out l.sheet l.rest l.at
+abbrev pub invariant-loop-told : goal.invariant-loop-told
+invariant-loop-told l =
+    (length l.out ≡ length l.initial.out)
+    × ((done : List ℕ)
+    × (lines l.tape ≡ done ++ to_print l.run)
+    × (l.at ≡ length done)
+    × (l.out ≡ over done l.initial.out))
 
-abbrev pub decreases-loop-rest : goal.decreases-loop-rest
-decreases-loop-rest l = length l.rest
+abbrev pub decreases-loop-told : goal.decreases-loop-told
+decreases-loop-told l = length l.run.rest.now

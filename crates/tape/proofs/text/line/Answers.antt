@@ -2,19 +2,16 @@
 use mathlib.Core.Path.{refl}
 use Prim.Native.Nat.{◌+◌}
 use native.Mathlib.Omega.{arith}
-use lib.ListN.{length, length-set}
+use lib.ListN.{length}
 use Rattle.slices.proofs.Over.{over-behind}
 use Rattle.tape.specs.Text.{spaced}
 use Rattle.tape.proofs.Printed.{line-length, line-written}
 use Rattle.tape.proofs.text.line.Goals as goal
 
-pub shape_of-out : goal.shape_of-out
-shape_of-out c = simp length-set (omega arith)
-
 pub returns : goal.returns
 returns c =
     let a = c.args in
-    let copied = c.copy_bytes in
+    let copied = c.copy in
     let numbers = c.numbers_into-written in
     let name = a.name.now in
     let ns = a.numbers.now in

@@ -2,8 +2,6 @@
 use native.Mathlib.Omega.{arith}
 use lib.ListN.{set, length-set}
 use Rattle.slices.proofs.Parts.{lent_length}
-use Rattle.slices.proofs.Over.{head_then}
-use Rattle.tape.specs.Text.{decimal}
 use Rattle.tape.proofs.Printed.{decimal-most}
 use Rattle.tape.proofs.text.spaced_number.Goals as goal
 
@@ -12,12 +10,9 @@ decimal_into-digits-requires c =
     let a = c.args in
     omega (arith, lent_length 1 (set a.out.now 0 32), length-set a.out.now 0 32, decimal-most a.x (omega arith))
 
-pub returns : goal.returns
-returns c =
+pub returns-clause-value : goal.returns-clause-value
+returns-clause-value c =
     let a = c.args in
     let digits = c.decimal_into-digits in
     let few = decimal-most a.x (omega arith) in
-    record {
-      value = (omega (arith, digits.ensures.value), omega (arith, digits.ensures.value));
-      out_after = head_then 32 (decimal a.x) a.out.now (omega arith) digits.ensures.out_after;
-    }
+    (omega (arith, digits.ensures.value), omega (arith, digits.ensures.value))

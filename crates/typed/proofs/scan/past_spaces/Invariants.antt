@@ -1,12 +1,10 @@
--- `past_spaces` meets its contract. The invariant: skipping from i on is skipping from j on.
-use mathlib.Core.Path.{◌≡◌}
-use Prim.Native.Nat.{◌-◌, ◌≤◌}
-use lib.ListN.{length, drop}
+-- The invariant of `past_spaces`: skipping in the text is skipping in what is left of it.
+use Rattle.std.proofs.Common.{◌≡◌, ◌≤◌, length}
 use Rattle.grammar.specs.Model.Reader.{skip}
 use Rattle.typed.proofs.scan.past_spaces.Given as goal
 
-abbrev pub invariant-loop-j : goal.invariant-loop-j
-invariant-loop-j l = (l.i ≤ l.j) × (l.j ≤ length l.text) × (skip (drop l.i l.text) ≡ skip (drop l.j l.text))
+abbrev pub invariant-loop-rest : goal.invariant-loop-rest
+invariant-loop-rest l = (length l.rest ≤ length l.text) × (skip l.text ≡ skip l.rest)
 
-abbrev pub decreases-loop-j : goal.decreases-loop-j
-decreases-loop-j l = length l.text - l.j
+abbrev pub decreases-loop-rest : goal.decreases-loop-rest
+decreases-loop-rest l = length l.rest

@@ -4,11 +4,7 @@ use Rattle.typed.proofs.Whole.{typed_long, typed_short}
 use Rattle.typed.proofs.sides.typed_sides.Goals as goal
 
 pub returns-then-text-gt-LONGEST : goal.returns-then-text-gt-LONGEST
-returns-then-text-gt-LONGEST c =
-    let x = c.args in
-    typed_long x.m x.text.now c.no_pair.result (omega arith) c.no_pair.ensures
+returns-then-text-gt-LONGEST c = typed_long c.args.m c.args.text.now (omega arith)
 
 pub returns : goal.returns
-returns c =
-    let x = c.args in
-    typed_short x.m x.text.now c.sides.result (omega arith) c.sides.ensures
+returns c = typed_short c.args.m c.args.text.now c.sides.result (omega arith) c.sides.ensures

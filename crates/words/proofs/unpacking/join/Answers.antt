@@ -19,6 +19,3 @@ overflow_add-result c =
       ap number_of c.unpack-low.ensures,
       carries-number a.first a.second c.requires,
     )
-
-pub returns : goal.returns
-returns c = rw (c.unpack-top.ensures, c.unpack-low.ensures)

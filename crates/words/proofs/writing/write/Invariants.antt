@@ -1,16 +1,16 @@
--- `writing::write` meets its contract. The invariant: the words of the first i numbers are written, in `at` memory words. The measure is what is
--- left.
+-- `writing::write` meets its contract. The invariant: the words of the numbers so far are written, in `at` memory words.
 use mathlib.Core.Path.{◌≡◌}
-use Prim.Native.Nat.{◌-◌, ◌≤◌}
+use Prim.Native.Nat.{◌≤◌}
 use lib.ListN.{length, take}
 use Rattle.slices.specs.Over.{over}
 use Rattle.words.specs.Words.{words_of}
 use Rattle.words.proofs.writing.write.Given as goal
 
-abbrev pub invariant-loop-i : goal.invariant-loop-i
-invariant-loop-i l =
-    (l.i ≤ length l.numbers) × (length l.out ≡ length l.initial.out) × (l.at ≡ length (words_of l.kind (take l.i l.numbers)))
-    × (l.out ≡ over (words_of l.kind (take l.i l.numbers)) l.initial.out) × (l.at ≤ length l.initial.out)
-
-abbrev pub decreases-loop-i : goal.decreases-loop-i
-decreases-loop-i l = length l.numbers - l.i
+abbrev pub invariant-loop-number : goal.invariant-loop-number
+invariant-loop-number l =
+    record {
+      room : length l.out ≡ length l.initial.out;
+      place : l.at ≡ length (words_of l.kind (take l.number-index l.numbers));
+      written : l.out ≡ over (words_of l.kind (take l.number-index l.numbers)) l.initial.out;
+      fits : l.at ≤ length l.initial.out;
+    }

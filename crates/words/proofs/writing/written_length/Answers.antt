@@ -1,34 +1,30 @@
--- `writing::written_length` meets its contract. The invariant: what is counted and what the numbers left take is what all take. The measure is
--- the numbers left.
-use mathlib.Core.Path.{ap}
-use mathlib.Core.List.{List}
+-- `writing::written_length` meets its contract: the sum of what each number takes, two memory words at most.
+use mathlib.Core.Path.{◌∙◌}
 use Prim.Native.Nat.{ℕ}
 use native.Mathlib.Omega.{arith}
-use lib.ListN.{length, get_or, drop_of_length-le}
-use Rattle.words.specs.Words.{words_of}
-use Rattle.words.proofs.Packed.{length_two, words_length_on}
+use borrow.Author.Rules.{rules}
+use borrow.Author.Tests.{tests}
+use lib.ListN.{length}
+use Rattle.std.proofs.lemmas.Iterator.{YieldsList-from_slice, YieldsList-from_map}
+use Rattle.std.proofs.lemmas.Iterator.Consumers.{sum_from_yields_List, fits_from_yields_list}
+use Rattle.words.specs.Words.{words_for}
+use Rattle.words.proofs.Packed.{written_sum, written_two, written_kind}
 use Rattle.words.proofs.writing.written_length.Goals as goal
 
-pub loop-place-init : goal.loop-place-init
-loop-place-init c = (omega arith, omega arith, λ k. omega arith)
+abbrev length_of : ℕ → ℕ
+length_of x = length (words_for 0 x)
 
-pub overflow_add-needed : goal.overflow_add-needed
-overflow_add-needed c =
-    let a = c.args in
-    let l = c.loop-place in
-    omega (arith, c.length_for-needed.ensures 0, length_two 0 (get_or a.numbers.now l.place 0))
-
-pub loop-place-preserved : goal.loop-place-preserved
-loop-place-preserved c =
-    let a = c.args in
-    let l = c.loop-place in (
-      omega arith,
-      omega (arith, c.length_for-needed.ensures 0, length_two 0 (get_or a.numbers.now l.place 0)),
-      λ k. omega (arith, l.invariant.2 k, words_length_on a.numbers.now l.place (omega arith) k, c.length_for-needed.ensures k),
-    )
+pub sum-requires-clause-fits : goal.sum-requires-clause-fits
+sum-requires-clause-fits c =
+    let ns = c.args.numbers.now in
+    fits_from_yields_list c.map.result _
+    (YieldsList-from_map _ length_of (YieldsList-from_slice ns cc) c.map.ensures.closure (λ x r q k. search (rules, tests)))
+    (omega (arith, written_sum 0 ns, written_two 0 ns, c.iter.ensures.bound))
 
 pub returns : goal.returns
-returns c =
-    let a = c.args in
-    let l = c.loop-place in
-    λ k. omega (arith, l.invariant.2 k, ap (λ (z : List ℕ). length (words_of k z)) (drop_of_length-le a.numbers.now {i = l.place} (omega arith)))
+returns c = λ kind.
+    let ns = c.args.numbers.now in
+    sum_from_yields_List c.map.result _ c.sum.ensures.ran
+    (YieldsList-from_map _ length_of (YieldsList-from_slice ns cc) c.map.ensures.closure (λ x r q k. search (rules, tests)))
+    ∙ written_sum 0 ns
+    ∙ written_kind 0 kind ns
